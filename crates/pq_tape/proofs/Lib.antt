@@ -1,0 +1,8 @@
+pub mod Entries
+pub mod Pending
+pub mod LineParts
+pub mod HistoryLines
+pub mod MarksLines
+pub mod HistoryTexts
+pub mod PlainHistory
+pub mod Merging

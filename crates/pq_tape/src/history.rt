@@ -1,0 +1,42 @@
+mod laws;
+mod lines;
+mod reading;
+mod writing;
+
+pub use laws::{history_texts_are_read, written_histories_are_read};
+use pq_model::Mark;
+pub use reading::read_history;
+use std::marker::Model;
+pub use writing::write_history;
+
+/// For how many seats and with which capacity a history was made.
+#[derive(Clone, Copy, Debug, PartialEq, Eq)]
+pub struct Head {
+    /// 1 to 16 in a text.
+    pub seats: u32,
+    /// 1 to 1,048,576 in a text. There may be more seats than this.
+    pub capacity: u32,
+}
+
+/// What a text of a history records. Contracts see it as its head, the list of its marks, and the
+/// number of entries left.
+#[derive(Debug, Drop)]
+pub struct History {
+    pub head: Head,
+    /// The marks in the order of their places; at most 1,048,576 in a text.
+    pub marks: Vec<Mark>,
+    /// How many entries are said to be left at the end, 0 to 1,048,576 in a text. Whether it is so, an
+    /// audit says.
+    pub left: u32,
+}
+
+impl Model for History {
+    ghost use Rattle.pq_tape.specs.HistoryText.{Recorded};
+
+    ghost Value = { Recorded };
+
+    ghost view = { λ h. record { head = h.head; marks = h.marks.items; left = h.left } };
+}
+
+#[cfg(test)]
+mod tests;
