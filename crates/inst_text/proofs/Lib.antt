@@ -1,0 +1,4 @@
+pub mod ChoiceText
+pub mod ItemLines
+pub mod KnapsackText
+pub mod PlainKnapsack
