@@ -1,0 +1,5 @@
+pub mod Totals
+pub mod Bits
+pub mod Prefixes
+pub mod Chosen
+pub mod Expanded

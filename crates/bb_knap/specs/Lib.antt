@@ -1,0 +1,7 @@
+pub mod Plans
+pub mod Order
+pub mod Branching
+pub mod Decisions
+pub mod Sums
+pub mod Prepared
+pub mod Laws

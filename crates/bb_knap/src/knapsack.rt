@@ -1,0 +1,129 @@
+ghost use Rattle.std.specs.Prelude.{◌≡◌, ◌≤◌, drop, length, IfOk};
+ghost use Rattle.inst_text.specs.Knapsack.{IsInstance, total_value};
+ghost use Rattle.bb_knap.specs.Plans.{IsChoiceOf, value_of, cost_of};
+ghost use Rattle.bb_knap.specs.Order.{order_of};
+ghost use Rattle.bb_knap.specs.Branching.{dantzig, root_bound};
+
+use crate::dantzig::dantzig_from;
+use crate::order::{item_order, numbered_item};
+use crate::sums::{value_sums, weight_sums};
+use inst_text::{Choice, Item, Items};
+use pq_io::NoMemory;
+use std::alloc::Global;
+use std::marker::Model;
+
+/// The 0/1 knapsack problem of an instance: which of its items to take, so that they fit and are worth most.
+///
+/// Beside the instance it keeps the order in which a search decides on the items, and the sums of their weights
+/// and values over that order.
+#[derive(Debug, Drop)]
+pub struct Knapsack {
+    items: Items,
+    order: Vec<u32>,
+    weights: Vec<u64>,
+    values: Vec<u32>,
+}
+
+impl Model for Knapsack {
+    ghost use Rattle.inst_text.specs.Knapsack.{Instance};
+    ghost use Rattle.bb_knap.specs.Prepared.{IsPrepared};
+
+    ghost Value = { Instance };
+
+    ghost view = { λ k. k.items };
+
+    ghost invariant = { λ k. IsPrepared k.items k.order.items k.weights.items k.values.items };
+}
+
+impl Knapsack {
+    /// The problem of this instance. It sorts the items once: O(n log n).
+    pub fn new(alloc: Global, items: Items) -> Result<Knapsack, NoMemory>
+        ensures { IfOk result (λ k. k ≡ items) }
+    {
+        let order = item_order(alloc, items.items.as_slice())?;
+        let weights = weight_sums(alloc, &items, order.as_slice())?;
+        let values = value_sums(alloc, &items, order.as_slice())?;
+        Ok(Knapsack {
+            items,
+            order,
+            weights,
+            values,
+        })
+    }
+
+    /// The greatest weight that a feasible choice has, at most 1,000,000,000,000. Constant time.
+    pub fn capacity(&self) -> u64
+        ensures capacity { result ≡ self.now.capacity }
+        ensures within_limits { IsInstance self.now }
+    {
+        self.items.capacity
+    }
+
+    /// The items, numbered from 0 as they stand here. There are at most 1,024. Constant time.
+    pub fn items(&self) -> &[Item]
+        ensures items { result.now ≡ self.now.items }
+        ensures within_limits { IsInstance self.now }
+    {
+        self.items.items.as_slice()
+    }
+
+    /// The numbers of the items in the order in which a search decides on them: those without weight first, then
+    /// the others by falling value for their weight; equal ones by their numbers. Constant time.
+    pub fn order(&self) -> &[u32]
+        ensures { result.now ≡ order_of self.now.items }
+    {
+        self.order.as_slice()
+    }
+
+    /// The sum of the values of all items, at most 67,108,863. Constant time.
+    pub fn total_value(&self) -> u32
+        ensures { result ≡ total_value self.now.items }
+    {
+        let order = self.order.as_slice();
+        let values = self.values.as_slice();
+        values[order.len()]
+    }
+
+    /// The sum of the values of the chosen items, at most 67,108,863. One pass over the choice.
+    pub fn value_of(&self, choice: &Choice) -> u32
+        requires { IsChoiceOf self.now choice.now }
+        ensures { result ≡ value_of self.now.items choice.now }
+    {
+        self.value_within(choice)
+    }
+
+    /// The same where the choice may have numbers that no item has, which add nothing.
+    pub(crate) fn value_within(&self, choice: &Choice) -> u32
+        ensures value { result ≡ value_of self.now.items choice.now }
+        ensures at_most { result ≤ total_value self.now.items }
+    {
+        let items = self.items();
+        let mut value = 0;
+        for number in &choice.numbers {
+            value += numbered_item(items, *number).value;
+        }
+        value
+    }
+
+    /// Dantzig's bound of all items with the whole capacity, at most 67,108,863: no feasible choice is worth
+    /// more (G. B. Dantzig, Discrete-variable extremum problems, 1957). O(log n).
+    pub fn root_bound(&self) -> u32
+        ensures { result ≡ root_bound self.now }
+    {
+        self.dantzig(0, self.capacity())
+    }
+
+    /// Dantzig's bound of the items from this place of the order on, with this room: whole values while the items
+    /// fit, and of the first that does not fit the part that fills the room, rounded down. O(log n).
+    pub(crate) fn dantzig(&self, from: usize, room: u64) -> u32
+        requires from { from ≤ length self.now.items }
+        requires room { room ≤ 1000000000000 }
+        ensures { result ≡ dantzig self.now.items room (drop from (order_of self.now.items)) }
+    {
+        let items = self.items();
+        let order = self.order.as_slice();
+        let weights = self.weights.as_slice();
+        let values = self.values.as_slice();
+        dantzig_from(items, order, weights, values, from, room)
+    }
+}

@@ -1,0 +1,19 @@
+//! The 0/1 knapsack problem: what a feasible choice is, what it is worth and what it costs, and the tree of
+//! decisions with Dantzig's bound in which a search looks for the best.
+#![tactic(auto)]
+
+mod dantzig;
+mod decisions;
+mod knapsack;
+mod laws;
+mod node;
+mod order;
+mod plan;
+mod problem;
+mod sums;
+#[cfg(test)]
+mod tests;
+
+pub use knapsack::Knapsack;
+pub use laws::{best_is_cheapest, root_bound_is_bound, value_and_cost_are_all};
+pub use node::KnapNode;

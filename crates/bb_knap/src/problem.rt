@@ -1,0 +1,89 @@
+ghost use Rattle.inst_text.specs.Knapsack.{IsInstance};
+ghost use Rattle.bb_knap.specs.Plans.{IsFeasible, cost_of};
+ghost use Rattle.bb_knap.specs.Laws.TreeLaws.{reached, bounded, passed_on, told_apart, ends, attained, least_of_all, counted};
+ghost use Rattle.bb_knap.specs.Branching.{Stands, Reaches, tree_of, tree_size, least_cost};
+
+use crate::knapsack::Knapsack;
+use crate::node::KnapNode;
+use crate::order::numbered_item;
+use crate::plan::plan;
+use bb_problem::{Problem, Step};
+use inst_text::Choice;
+use pq_io::NoMemory;
+use std::alloc::Global;
+
+/// The search decides on the items in the order of their values for their weight, takes an item where it fits
+/// or leaves it, and bounds a node by Dantzig's bound of the items that are left.
+impl Problem for Knapsack {
+    type Node = KnapNode;
+
+    type Plan = Choice;
+
+    ghost is_problem = { IsInstance };
+
+    ghost is_feasible = { IsFeasible };
+
+    ghost cost_of = { cost_of };
+
+    ghost least = { least_cost };
+
+    ghost tree = { tree_of };
+
+    ghost tree_size = { tree_size };
+
+    ghost stands = { Stands };
+
+    ghost reaches = { Reaches };
+
+    /// The node that decides nothing. Constant time.
+    fn root(&self, alloc: Global) -> Result<KnapNode, NoMemory> {
+        Ok(KnapNode::root(alloc, self.capacity()))
+    }
+
+    /// The sum of all values, but those of the taken items and Dantzig's bound of the rest. O(log n).
+    fn bound(&self, node: &KnapNode) -> u32 {
+        let depth = node.decisions().len().min(self.items().len());
+        self.total_value()
+            .saturating_sub(node.value())
+            .saturating_sub(self.dantzig(depth, node.room()))
+    }
+
+    /// The plan of a node that decides on all items, else the child that takes the next item, where it fits, and
+    /// the child that leaves it. A child takes time to copy its decisions, a plan O(n log n).
+    fn expand(&self, alloc: Global, node: KnapNode) -> Result<Step<Choice, KnapNode>, NoMemory> {
+        let items = self.items();
+        let order = self.order();
+        let depth = node.decisions().len();
+        if order.len() <= depth {
+            return Ok(Step::Leaf(plan(alloc, self, node.decisions())?));
+        }
+        let item = numbered_item(items, order[depth]);
+        let mut children = Vec::new(alloc);
+        if u64::from(item.weight) <= node.room() {
+            children.push(node.taking(alloc, item)?)?;
+        }
+        children.push(node.leaving()?)?;
+        Ok(Step::Branch(children))
+    }
+
+    /// The sum of the values that the choice leaves behind. One pass over the choice.
+    fn cost(&self, choice: &Choice) -> u32 {
+        self.total_value() - self.value_within(choice)
+    }
+
+    ghost reached = { reached };
+
+    ghost bounded = { bounded };
+
+    ghost passed_on = { passed_on };
+
+    ghost told_apart = { told_apart };
+
+    ghost ends = { ends };
+
+    ghost attained = { attained };
+
+    ghost least_of_all = { least_of_all };
+
+    ghost counted = { counted };
+}
