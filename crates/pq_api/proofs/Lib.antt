@@ -1,0 +1,6 @@
+pub mod Order
+pub mod Replayed
+pub mod Places
+pub mod Alone
+pub mod Keeps
+pub mod Filling

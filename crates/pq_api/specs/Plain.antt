@@ -1,0 +1,46 @@
+-- The plain queue: its one pass has made all calls, so that they are the history.
+use Rattle.std.specs.Prelude.{◌≡◌, ℕ, ◌^◌, ◌<◌, List, [], ◌∷◌, length, map}
+use Rattle.atomic_table.specs.Table.{State, Me}
+use Rattle.pq_words.specs.declared.entries.Entry.{Entry}
+use Rattle.pq_model.specs.declared.marks.Act.{Act}
+use Rattle.pq_model.specs.declared.marks.Reply.{Reply}
+use Rattle.pq_model.specs.declared.marks.Mark.{Mark}
+use Rattle.pq_model.specs.declared.passes.Call.{Call}
+use Rattle.pq_model.specs.declared.passes.Known.{Known}
+use Rattle.pq_model.specs.History.{mark, left}
+use Rattle.pq_model.specs.Passes.{Witnesses, with_call, with_front}
+
+-- what contracts see of a plain pass
+pub record Plain : Type 0 where
+  pub capacity : ℕ
+  pub known : Known
+
+-- the marks of the pass's own calls, in order
+abbrev pub marks_of : Known → List Mark
+marks_of k = map (λ (c : Call). mark k.number c.act c.reply) k.calls
+
+-- the entries that a plain pass holds are those that its calls leave
+abbrev pub held : Plain → List Entry
+held p = left (marks_of p.known)
+
+-- what a plain pass keeps: its calls are a legal history of one seat, which leaves the entries
+pub record IsKept (capacity : ℕ) (k : Known) (entries : List Entry) : Type 0 where
+  pub first : k.number ≡ 1
+  pub alone : k.joined ≡ []
+  pub witnessed : Witnesses 1 capacity k (marks_of k)
+  pub few : length k.calls < 2 ^ 25
+  pub rest : entries ≡ left (marks_of k)
+
+-- the rule of the pass's table: there is one view, and the one word counts its calls
+pub record IsCounted {S : Type 0} (s : State S Known) : Type 0 where
+  pub view : Known
+  pub alone : s.views ≡ view ∷ []
+  pub counted : s.words ≡ length view.calls ∷ []
+
+-- the step of a call finds how many there were before it
+abbrev pub Draws : {S : Type 0} → Act → Reply → Me S Known → ℕ → Me S Known → Type 0
+Draws act reply m found m' = (found ≡ length m.0.calls) × (m'.0 ≡ with_call m.0 found act reply) × (m'.1 ≡ m.1)
+
+-- the step of a look finds how many there are
+abbrev pub Looks : {S : Type 0} → Me S Known → ℕ → Me S Known → Type 0
+Looks m found m' = (found ≡ length m.0.calls) × (m'.0 ≡ with_front m.0 found) × (m'.1 ≡ m.1)

@@ -1,0 +1,19 @@
+//! The interface of a shared priority queue, whose callers hold passes, and the plain queue with one caller.
+#![tactic(auto)]
+
+mod answers;
+mod gates;
+mod laws;
+mod plain;
+mod queue;
+#[cfg(test)]
+mod tests;
+
+pub use answers::{CloseRefusal, CloseWhy, Closed, Inserted, Removed};
+pub use gates::{Gate, Open, Point};
+pub use laws::{
+    calls_are_steps, empty_where_nothing_is_left, full_with_one_seat, one_seat_has_made_all,
+    one_seat_steps, places_are_calls, sizes_are_bounded,
+};
+pub use plain::{PlainPass, PlainQueue};
+pub use queue::SharedQueue;

@@ -1,0 +1,83 @@
+ghost use Rattle.std.specs.Prelude.{◌≡◌, ℕ, ◌-◌, ◌^◌, ◌<◌, length};
+ghost use Rattle.pq_model.specs.declared.marks.Act.{Act};
+ghost use Rattle.pq_model.specs.declared.marks.Act.TheVariants.{Remove};
+ghost use Rattle.pq_model.specs.declared.marks.Reply.{Reply};
+ghost use Rattle.pq_model.specs.declared.marks.Reply.TheVariants.{Empty};
+ghost use Rattle.pq_model.specs.declared.passes.Known.{Known};
+ghost use Rattle.pq_model.specs.Passes.{fresh};
+ghost use Rattle.pq_api.specs.Plain.{IsCounted, Draws, Looks};
+
+use atomic_table::{Play, Seat, Table, TableRule};
+use pq_model::{Act, Known, Reply};
+use std::alloc::Global;
+use std::marker::{Brand, PhantomData};
+
+// The table of a plain pass has one word, the length of the history, and no slot.
+pub struct PlainRule;
+
+impl TableRule<(), Known, ()> for PlainRule {
+    ghost holds = { λ _ s. IsCounted s };
+
+    ghost first = { λ _. fresh 1 };
+}
+
+pub type PlainTable = Table<(), Known, (), PlainRule, Global>;
+
+pub type PlainSeat = Seat<(), Known>;
+
+// The call that a step makes. Whoever makes the step picks it.
+trait Making {
+    ghost act: { Act };
+
+    ghost reply: { Reply };
+}
+
+impl Making for Brand {
+    ghost act = { Remove };
+
+    ghost reply = { Empty };
+}
+
+struct CallStep<J> {
+    of: PhantomData<J>,
+}
+
+impl<J: Making> Play<(), Known> for CallStep<J> {
+    ghost then = { λ st m found m'. Draws J.act J.reply m found m' };
+}
+
+struct LookStep;
+
+impl Play<(), Known> for LookStep {
+    ghost then = { λ st m found m'. Looks m found m' };
+}
+
+// The mark of a call, by one step. Its place comes back, and the view keeps the call.
+fn draw_made<J: Making>(table: &PlainTable, seat: &mut PlainSeat, act: Act, reply: Reply) -> u64
+    requires own { (seat.old.table_id ≡ table.now.shared.table_id) × (table.now.shared.table_id.words ≡ 1) }
+    requires made { (J.act ≡ act) × (J.reply ≡ reply) }
+    requires few { length seat.old.me.0.calls < 2 ^ 25 - 1 }
+    ensures own { seat.new.table_id ≡ seat.old.table_id }
+    ensures call { Draws act reply seat.old.me result seat.new.me }
+{
+    table.shared.fetch_add::<CallStep<J>>(seat, 0, 1)
+}
+
+pub fn draw(table: &PlainTable, seat: &mut PlainSeat, act: Act, reply: Reply) -> u32
+    requires own { (seat.old.table_id ≡ table.now.shared.table_id) × (table.now.shared.table_id.words ≡ 1) }
+    requires few { length seat.old.me.0.calls < 2 ^ 25 - 1 }
+    ensures own { seat.new.table_id ≡ seat.old.table_id }
+    ensures call { Draws act reply seat.old.me result seat.new.me }
+{
+    draw_made::<Brand>(table, seat, act, reply) as u32
+}
+
+// The length of the history, to which the view's front rises.
+pub fn load(table: &PlainTable, seat: &mut PlainSeat) -> u32
+    requires own { (seat.old.table_id ≡ table.now.shared.table_id) × (table.now.shared.table_id.words ≡ 1) }
+    requires few { length seat.old.me.0.calls < 2 ^ 25 }
+    ensures own { seat.new.table_id ≡ seat.old.table_id }
+    ensures front { Looks seat.old.me result seat.new.me }
+{
+    table.shared.load::<LookStep>(seat, 0) as u32
+}
