@@ -1,0 +1,9 @@
+pub mod Members
+pub mod Totals
+pub mod Stored
+pub mod Needs
+pub mod Searches
+pub mod Places
+pub mod Turns
+pub mod Kept
+pub mod Calls

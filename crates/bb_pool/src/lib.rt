@@ -1,0 +1,11 @@
+//! Branch and bound over a priority queue: the node of least bound first.
+#![tactic(auto)]
+
+mod outcome;
+mod plain;
+mod state;
+#[cfg(test)]
+mod tests;
+
+pub use outcome::Outcome;
+pub use plain::search_plain;

@@ -1,0 +1,85 @@
+ghost use Rattle.std.specs.Prelude.{◌≡◌, ℕ, [], ◌-◌, ◌^◌, ◌<◌, length, All, IfOk, IfErr, MatchOption, IsTrue, ◌↔◌};
+ghost use Rattle.pq_api.specs.Plain.{held};
+
+use crate::outcome::Stop;
+use pq_api::{Inserted, PlainPass, Removed, one_seat_has_made_all};
+use pq_words::Entry;
+
+/// A plan that a leaf gave, with its cost.
+#[derive(Drop)]
+pub(crate) struct Found<L> {
+    pub(crate) plan: L,
+    pub(crate) cost: u32,
+}
+
+/// A node with its bound, which is below 2^26.
+#[derive(Drop)]
+pub(crate) struct Child<N> {
+    pub(crate) key: u32,
+    pub(crate) node: N,
+    pub(crate) ghost key_fits: { key < 2 ^ 26 },
+}
+
+/// A search with one caller: the queue's pass, the nodes made so far by number, each until it is taken, and
+/// the best plan so far.
+#[derive(Drop)]
+pub(crate) struct Search<N, L> {
+    pub(crate) pass: PlainPass,
+    pub(crate) store: Vec<Option<N>>,
+    pub(crate) best: Option<Found<L>>,
+}
+
+impl<N: Drop, L: Drop> Search<N, L> {
+    ghost use Rattle.bb_pool.specs.Underway.{cost_so_far, IsPut, IsNotPut, IsStored, IsTaken};
+
+    /// The cost of the best plan so far.
+    pub(crate) fn best_cost(&self) -> Option<u32>
+        ensures { result ≡ cost_so_far self.now.best }
+    {
+        match &self.best {
+            Some(found) => Some(found.cost),
+            None => None,
+        }
+    }
+
+    /// Gives the child the next number, puts it into the store under it, and inserts an entry for it.
+    pub(crate) fn put(&mut self, child: Child<N>) -> Result<(), Stop>
+        requires few { length self.old.store.items < 2 ^ 22 }
+        requires calls { length self.old.pass.known.calls < 2 ^ 25 - 1 }
+        requires number { self.old.pass.known.number ≡ 1 }
+        ensures put { IfOk result (λ _. IsPut self.old child self.new) }
+        ensures refused { IfErr result (IsNotPut self.old) }
+    {
+        let id = self.store.len() as u32;
+        let Child { key, node } = child;
+        let Ok(()) = self.store.push(Some(node)) else {
+            return Err(Stop::NoMemory);
+        };
+        match self.pass.add(Entry { key, id }) {
+            Inserted::Done(_) => Ok(()),
+            Inserted::Full(receipt) => {
+                one_seat_has_made_all();
+                Err(Stop::Full {
+                    place: receipt.place,
+                })
+            }
+        }
+    }
+
+    /// Removes the least entry and takes its node out of the store, or gives `None` where there is no entry.
+    pub(crate) fn take(&mut self) -> Option<Child<N>>
+        requires stored { All (IsStored self.old.store.items) (held self.old.pass) }
+        requires calls { length self.old.pass.known.calls < 2 ^ 25 - 1 }
+        ensures { MatchOption result ((held self.old.pass ≡ []) × (self.new.best ≡ self.old.best)) (λ child. IsTaken self.old child self.new) }
+    {
+        match self.pass.take() {
+            Removed::Got(e, _) => {
+                let Some(node) = self.store[e.id as usize].take() else {
+                    unreachable!()
+                };
+                Some(Child { key: e.key, node })
+            }
+            Removed::Empty(_) => None,
+        }
+    }
+}
