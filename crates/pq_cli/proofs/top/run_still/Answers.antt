@@ -1,0 +1,22 @@
+use Rattle.std.proofs.Common.{inl, inr, subst}
+use Rattle.pq_cli.specs.Answers.{IsAnswered}
+use Rattle.pq_cli.proofs.Reported.{completed, cut_lines, cut_short}
+use Rattle.pq_cli.proofs.top.run_still.Goals as goal
+
+pub returns-clause-answered : goal.returns-clause-answered
+returns-clause-answered g c = λ answered. elim c.report.ensures.cause [
+  | inl same ↦ rw same (c.run_command.ensures.answered (subst IsAnswered same answered))
+  | inr failed ↦ absurd (subst IsAnswered failed.0 answered)
+]
+
+pub returns-clause-complete : goal.returns-clause-complete
+returns-clause-complete g c = λ command said. completed _ _ _ _ _ _ c.run_command.result _ c.report.ensures.cause (c.run_command.ensures.complete command said)
+
+pub returns-clause-cut_short : goal.returns-clause-cut_short
+returns-clause-cut_short g c = λ failed command said. cut_short command c.run_command.result _ _ _
+    (λ answered. c.run_command.ensures.answered answered command said)
+    c.run_command.ensures.untouched
+    (λ same. c.run_command.ensures.cut_short same command said)
+
+pub returns-clause-told_front : goal.returns-clause-told_front
+returns-clause-told_front g c = λ failed. cut_lines _ c.run_command.result _ _ c.report.ensures.told

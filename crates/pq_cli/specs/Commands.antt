@@ -1,0 +1,56 @@
+-- Which words are which command.
+use Rattle.std.specs.Prelude.{ℕ, ◌+◌, ◌≤◌, ◌&&◌, if◌then◌else◌, List, [], ◌∷◌, map, codes, Option, Some, None, is_none, unwrap_or, String, string_bytes}
+use Rattle.std.specs.Str.{bytes_eq}
+use Rattle.std.specs.declared.alloc.Global.{Global}
+use Rattle.pq_io.specs.Reading.{is_between}
+use Rattle.pq_cli.specs.declared.command.Command.{Command}
+use Rattle.pq_cli.specs.declared.command.Command.TheVariants.{Solve, Bound, Audit}
+use Rattle.pq_cli.specs.declared.words.settings.Settings.{Settings}
+use Rattle.pq_cli.specs.Words.{◌>>=◌, settings_from, is_silent}
+
+-- the bytes of each word
+abbrev pub texts : List (String Global) → List (List ℕ)
+texts words = map (λ w. string_bytes w) words
+
+-- the number, where it lies from low to high
+abbrev pub within : ℕ → ℕ → ℕ → Option ℕ
+within low high n = if is_between low high n then Some n else None
+
+-- A problem and a queue; one worker, 1 to 1,048,560 nodes and a capacity of at least the workers and at most
+-- 1,048,576. Where they are not said, there are 100,000 nodes, and the capacity is the nodes and the workers.
+unfoldable pub solve_from : Settings → Option Command
+solve_from said = do
+  kind ← said.kind
+  queue ← said.queue
+  workers ← within 1 1 (unwrap_or said.workers 1)
+  nodes ← within 1 1048560 (unwrap_or said.nodes 100000)
+  capacity ← within workers 1048576 (unwrap_or said.capacity (nodes + workers))
+  Some (Solve kind queue workers nodes capacity)
+
+-- a problem, and no option
+unfoldable pub bound_from : Settings → Option Command
+bound_from said = do
+  kind ← said.kind
+  if is_silent said then Some (Bound kind) else None
+
+-- nothing
+unfoldable pub audit_from : Settings → Option Command
+audit_from said = if is_none said.kind && is_silent said then Some Audit else None
+
+abbrev pub nothing : Settings
+nothing = record { kind = None; queue = None; workers = None; nodes = None; capacity = None }
+
+-- The command that the words say; None where no command reads them.
+unfoldable pub command_of : List (List ℕ) → Option Command
+command_of [] = None
+command_of (name ∷ words) =
+    if bytes_eq name (codes "solve") then settings_from nothing words >>= solve_from
+    else if bytes_eq name (codes "bound") then settings_from nothing words >>= bound_from
+    else if bytes_eq name (codes "audit") then settings_from nothing words >>= audit_from
+    else None
+
+-- the numbers that a command may have
+abbrev pub HasLimits : Command → Type 0
+HasLimits (Solve kind queue workers nodes capacity) = (1 ≤ nodes) × (nodes ≤ 1048560) × (1 ≤ capacity) × (capacity ≤ 1048576)
+HasLimits (Bound kind) = Unit {0}
+HasLimits Audit = Unit {0}

@@ -1,0 +1,129 @@
+-- How the words behind a command's name are read: the problem and the options, each at most once, in any order.
+use Rattle.std.specs.Prelude.{ℕ, ◌+◌, Bool, ◌==◌, ◌&&◌, if◌then◌else◌, List, [], ◌∷◌, take, drop, position, codes, Option, Some, None, is_none, Result, Ok, Err}
+use Rattle.std.specs.Str.{bytes_eq}
+use Rattle.pq_io.specs.declared.text.fault.Cause.{Cause}
+use Rattle.pq_io.specs.Reading.{number_of}
+use Rattle.pq_cli.specs.declared.command.Kind.{Kind}
+use Rattle.pq_cli.specs.declared.command.Kind.TheVariants.{Knapsack}
+use Rattle.pq_cli.specs.declared.command.Which.{Which}
+use Rattle.pq_cli.specs.declared.command.Which.TheVariants.{Plain}
+use Rattle.pq_cli.specs.declared.words.settings.Settings.{Settings}
+
+infixl 10 ◌>>=◌
+-- go on with the value, where there is one
+abbrev pub ◌>>=◌ : {A B : Type 0} → Option A → (A → Option B) → Option B
+(Some x) >>= f = f x
+None >>= f = None
+
+-- a value that was not said before
+abbrev pub once : {A : Type 0} → Option A → A → Option (Option A)
+once None new = Some (Some new)
+once (Some old) new = None
+
+-- the problem of this name
+abbrev pub kind_of : List ℕ → Option Kind
+kind_of word = if bytes_eq word (codes "knapsack") then Some Knapsack else None
+
+-- the queue of this name
+abbrev pub which_of : List ℕ → Option Which
+which_of word = if bytes_eq word (codes "plain") then Some Plain else None
+
+abbrev pub ok_of : Result ℕ Cause → Option ℕ
+ok_of (Ok n) = Some n
+ok_of (Err cause) = None
+
+-- the number that the word spells, at most 4,294,967,295; no option takes a greater one
+abbrev pub number_in : List ℕ → Option ℕ
+number_in word = ok_of (number_of 0 4294967295 word)
+
+-- the settings with this problem
+unfoldable pub with_kind : Settings → List ℕ → Option Settings
+with_kind said word = do
+  kind ← kind_of word
+  kinds ← once said.kind kind
+  Some (record said { kind = kinds })
+
+unfoldable pub with_queue : Settings → List ℕ → Option Settings
+with_queue said value = do
+  queue ← which_of value
+  queues ← once said.queue queue
+  Some (record said { queue = queues })
+
+unfoldable pub with_workers : Settings → List ℕ → Option Settings
+with_workers said value = do
+  number ← number_in value
+  numbers ← once said.workers number
+  Some (record said { workers = numbers })
+
+unfoldable pub with_nodes : Settings → List ℕ → Option Settings
+with_nodes said value = do
+  number ← number_in value
+  numbers ← once said.nodes number
+  Some (record said { nodes = numbers })
+
+unfoldable pub with_capacity : Settings → List ℕ → Option Settings
+with_capacity said value = do
+  number ← number_in value
+  numbers ← once said.capacity number
+  Some (record said { capacity = numbers })
+
+-- the settings with this option
+unfoldable pub with_option : Settings → List ℕ → List ℕ → Option Settings
+with_option said name value =
+    if bytes_eq name (codes "queue") then with_queue said value
+    else if bytes_eq name (codes "workers") then with_workers said value
+    else if bytes_eq name (codes "nodes") then with_nodes said value
+    else if bytes_eq name (codes "capacity") then with_capacity said value
+    else None
+
+-- what stands behind two dashes; none where a word does not begin with them
+abbrev pub behind_dashes : List ℕ → Option (List ℕ)
+behind_dashes [] = None
+behind_dashes (a ∷ []) = None
+behind_dashes (a ∷ b ∷ bs) = if (a == 45) && (b == 45) then Some bs else None
+
+-- a name, and the value behind the first `=`; none where there is no `=`
+abbrev pub split_at_equals : List ℕ → Option (List ℕ × List ℕ)
+split_at_equals body = position (λ b. b == 61) body >>= λ at. Some (take at body, drop (at + 1) body)
+
+-- the word is no option that is whole by itself
+abbrev pub unless_split : List ℕ → Option (List ℕ × List ℕ) → Option (List ℕ)
+unless_split body None = Some body
+unless_split body (Some split) = None
+
+-- the name of an option whose value is the next word
+unfoldable pub pair_name : List ℕ → Option (List ℕ)
+pair_name word = behind_dashes word >>= λ body. unless_split body (split_at_equals body)
+
+abbrev pub with_split : Settings → Option (List ℕ × List ℕ) → Option Settings
+with_split said split = split >>= λ p. with_option said p.0 p.1
+
+abbrev pub with_body : Settings → List ℕ → Option (List ℕ) → Option Settings
+with_body said word None = with_kind said word
+with_body said word (Some body) = with_split said (split_at_equals body)
+
+-- the settings with what one word says by itself: a problem, or an option with its value
+unfoldable pub with_lone : Settings → List ℕ → Option Settings
+with_lone said word = with_body said word (behind_dashes word)
+
+-- what the last word says
+abbrev pub with_last : Settings → List ℕ → Option (List ℕ) → Option Settings
+with_last said word None = with_lone said word >>= λ s. Some s
+with_last said word (Some name) = None
+
+-- by whether the second of two words is the value of the first
+abbrev pub after_two : {A : Type 0} → Option (List ℕ) → A → (List ℕ → A) → A
+after_two None lone pair = lone
+after_two (Some name) lone pair = pair name
+
+-- what the words say beside what was said before them
+unfoldable pub settings_from : Settings → List (List ℕ) → Option Settings
+settings_from said [] = Some said
+settings_from said (word ∷ []) = with_last said word (pair_name word)
+settings_from said (word ∷ value ∷ words) = after_two (pair_name word)
+    (with_lone said word >>= λ s. settings_from s (value ∷ words))
+    (λ name. with_option said name value >>= λ s. settings_from s words)
+
+-- no option was said
+abbrev pub is_silent : Settings → Bool
+is_silent said = is_none said.queue && (is_none said.workers && (is_none said.nodes && is_none said.capacity))

@@ -1,0 +1,33 @@
+/// Which problem a command is about.
+#[derive(Clone, Copy, Debug, PartialEq, Eq)]
+pub enum Kind {
+    Knapsack,
+}
+
+/// Which queue a command uses.
+#[derive(Clone, Copy, Debug, PartialEq, Eq)]
+pub enum Which {
+    Plain,
+}
+
+/// A command of the program, with the defaults filled in.
+#[derive(Clone, Copy, Debug, PartialEq, Eq)]
+pub enum Command {
+    /// Reads an instance, and writes a feasible plan that no feasible plan betters.
+    Solve {
+        kind: Kind,
+        queue: Which,
+        /// 1 on the plain queue.
+        workers: u32,
+        /// How many nodes may be made: 1 to 1,048,560.
+        nodes: u32,
+        /// How many nodes the queue takes: at least the workers, at most 1,048,576.
+        capacity: u32,
+    },
+    /// Reads an instance, and writes the bound of the root.
+    Bound {
+        kind: Kind,
+    },
+    /// Reads a history, and says whether a bounded priority multiset could have answered so.
+    Audit,
+}

@@ -1,0 +1,5 @@
+mod options;
+mod reading;
+mod settings;
+
+pub use reading::read_words;

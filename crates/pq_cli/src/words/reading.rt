@@ -1,0 +1,121 @@
+ghost use Rattle.std.specs.Prelude.{◌≡◌, ◌<◌, ◌≤◌, [], ◌∷◌, length, IfSome, MatchOption};
+ghost use Rattle.pq_cli.specs.Words.{settings_from, is_silent};
+ghost use Rattle.pq_cli.specs.Commands.{HasLimits, command_of, texts, within, solve_from, bound_from, audit_from};
+
+use crate::command::Command;
+use crate::words::options::{pair_name, with_lone, with_option};
+use crate::words::settings::Settings;
+
+/// The command that the words say, or `None` where no command reads them.
+///
+/// The first word is the command. Behind it the problem and the options stand in any order, each at most once; an
+/// option is two words `--name value` or one word `--name=value`.
+#[tactic(auto, unfolding(crate::specs::Commands::command_of))]
+pub fn read_words(words: &[String]) -> Option<Command>
+    ensures exact { result ≡ command_of (texts words.now) }
+    ensures limits { IfSome result HasLimits }
+{
+    let (name, behind) = split_word(words)?;
+    if name == b"solve".as_slice() {
+        solve_from(settings_from(Settings::NONE, behind)?)
+    } else if name == b"bound".as_slice() {
+        bound_from(settings_from(Settings::NONE, behind)?)
+    } else if name == b"audit".as_slice() {
+        audit_from(settings_from(Settings::NONE, behind)?)
+    } else {
+        None
+    }
+}
+
+// What the words say beside what was said before them.
+#[tactic(auto, using(crate::proofs::WordSteps::lone_step, crate::proofs::WordSteps::pair_words), unfolding(crate::specs::Words::settings_from))]
+fn settings_from(said: Settings, words: &[String]) -> Option<Settings>
+    ensures { result ≡ settings_from said (texts words.now) }
+{
+    let Some((word, behind)) = split_word(words) else {
+        return Some(said);
+    };
+    match pair_name(word) {
+        None => settings_from(with_lone(said, word)?, behind),
+        Some(name) => {
+            let (value, behind) = split_word(behind)?;
+            settings_from(with_option(said, name, value)?, behind)
+        }
+    }
+}
+
+// The first word, and those behind it.
+fn split_word(words: &[String]) -> Option<(&[u8], &[String])>
+    ensures split { MatchOption result (texts words.now ≡ []) (λ p. texts words.now ≡ p.0.now ∷ texts p.1.now) }
+    ensures less { IfSome result (λ p. length p.1.now < length words.now) }
+{
+    let (word, behind) = words.split_first()?;
+    Some((word.as_str().as_bytes(), behind))
+}
+
+// The number, where it lies from `low` to `high`.
+fn within(low: u64, high: u64, number: u64) -> Option<u64>
+    ensures exact { result ≡ within low high number }
+    ensures range { IfSome result (λ n. (low ≤ n) × (n ≤ high)) }
+{
+    if low <= number && number <= high {
+        Some(number)
+    } else {
+        None
+    }
+}
+
+// A queue has to be named, since the queue of choice is not built yet.
+#[tactic(auto, unfolding(crate::specs::Commands::solve_from))]
+fn solve_from(said: Settings) -> Option<Command>
+    ensures exact { result ≡ solve_from said }
+    ensures limits { IfSome result HasLimits }
+{
+    let kind = said.kind?;
+    let queue = said.queue?;
+    let workers = within(1, 1, said.workers.unwrap_or(1))?;
+    let nodes = within(1, 1_048_560, said.nodes.unwrap_or(100_000))?;
+    let capacity = within(workers, 1_048_576, said.capacity.unwrap_or(nodes + workers))?;
+    Some(Command::Solve {
+        kind,
+        queue,
+        workers: workers as u32,
+        nodes: nodes as u32,
+        capacity: capacity as u32,
+    })
+}
+
+// No option was said.
+fn is_silent(said: &Settings) -> bool
+    ensures { result ≡ is_silent said.now }
+{
+    said.queue.is_none()
+        && said.workers.is_none()
+        && said.nodes.is_none()
+        && said.capacity.is_none()
+}
+
+#[tactic(auto, unfolding(crate::specs::Commands::bound_from))]
+fn bound_from(said: Settings) -> Option<Command>
+    ensures exact { result ≡ bound_from said }
+    ensures limits { IfSome result HasLimits }
+{
+    let kind = said.kind?;
+    if is_silent(&said) {
+        Some(Command::Bound { kind })
+    } else {
+        None
+    }
+}
+
+#[tactic(auto, unfolding(crate::specs::Commands::audit_from))]
+fn audit_from(said: Settings) -> Option<Command>
+    ensures exact { result ≡ audit_from said }
+    ensures limits { IfSome result HasLimits }
+{
+    if said.kind.is_none() && is_silent(&said) {
+        Some(Command::Audit)
+    } else {
+        None
+    }
+}

@@ -1,0 +1,21 @@
+use crate::command::{Kind, Which};
+
+/// What the words behind a command's name have said so far.
+#[derive(Clone, Copy, Debug)]
+pub struct Settings {
+    pub kind: Option<Kind>,
+    pub queue: Option<Which>,
+    pub workers: Option<u64>,
+    pub nodes: Option<u64>,
+    pub capacity: Option<u64>,
+}
+
+impl Settings {
+    pub const NONE: Settings = Settings {
+        kind: None,
+        queue: None,
+        workers: None,
+        nodes: None,
+        capacity: None,
+    };
+}
