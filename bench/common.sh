@@ -1,0 +1,43 @@
+# What the benchmarks share: yardsticks built by rustc, and the best of several runs taken by turns.
+top=$(cd "$(dirname "${BASH_SOURCE[0]}")/.." && pwd)
+build=$top/bench/build
+mkdir -p "$build"
+
+# Builds a yardstick, where it is missing or older than its source.
+yardstick() {
+    local source=$top/bench/yardsticks/$1.rs
+    [ "$build/$1" -nt "$source" ] || rustc -O --edition 2024 -o "$build/$1" "$source" || exit 70
+}
+
+# Builds the program itself.
+program() {
+    "$top/pq" </dev/null >/dev/null 2>&1
+    [ $? -ne 70 ] || exit 70
+}
+
+# Milliseconds that a command takes on the input in the file $1; it has to end with status 0.
+run_once() {
+    local input=$1 began ended
+    shift
+    began=$(date +%s%N)
+    "$@" <"$input" >"$build/said" || { echo "failed: $*" >&2; exit 1; }
+    ended=$(date +%s%N)
+    echo $(((ended - began) / 1000))
+}
+
+# The least of microseconds that each of two commands takes, run by turns: compare NAME INPUT ROUNDS ours.. -- yardstick..
+compare() {
+    local name=$1 input=$2 rounds=$3 ours=() theirs=() mine=0 other=0 took
+    shift 3
+    while [ "$1" != -- ]; do ours+=("$1"); shift; done
+    shift
+    theirs=("$@")
+    for _ in $(seq "$rounds"); do
+        took=$(run_once "$input" "${ours[@]}") || exit 1
+        [ "$mine" -ne 0 ] && [ "$mine" -le "$took" ] || mine=$took
+        took=$(run_once "$input" "${theirs[@]}") || exit 1
+        [ "$other" -ne 0 ] && [ "$other" -le "$took" ] || other=$took
+    done
+    awk -v n="$name" -v a="$mine" -v b="$other" \
+        'BEGIN { printf "%-28s pq %8.1f ms   plain Rust %8.1f ms   ratio %.2f\n", n, a / 1000, b / 1000, a / b }'
+}
