@@ -7,7 +7,7 @@ use Rattle.pq_io.specs.declared.text.fault.Cause.{Cause}
 use Rattle.pq_io.specs.declared.text.fault.Cause.TheVariants.{Word, Extra}
 use Rattle.pq_io.specs.Reading.{◌>>=◌, Spells, is_digits, number_of, word_at, number_at, after_word, at_line_end}
 use Rattle.pq_io.proofs.Binds.{ok_is, bind_ok}
-use Rattle.pq_io.proofs.Taken.{number_taken, number_found, line_ends, end_found, number_of_is}
+use Rattle.pq_io.proofs.Taken.{number_taken, number_found, word_first, same_word, fixed_taken, fixed_found, line_ends, end_found, number_of_is}
 use Rattle.pq_io.proofs.Plain.{number_spelled}
 use Rattle.pq_words.specs.declared.entries.Entry.{Entry}
 use Rattle.pq_model.specs.declared.marks.Act.{Act}
@@ -22,7 +22,7 @@ use Rattle.pq_tape.specs.declared.history.lines.HistoryLine.TheVariants.{Marked,
 use Rattle.pq_tape.specs.HistoryText.{HasLine, insert_words, got_words}
 use Rattle.pq_tape.specs.HistoryReading.{head_of, entry_at, answer_of, insert_of, got_of, empty_of, remove_of, mark_of, placed_of, ends_of, line_of}
 use Rattle.pq_tape.specs.HistorySpelling.{SpellsCall, SpellsMark, SpellsLeft, SpellsHead}
-use Rattle.pq_tape.proofs.LineParts.{same_word, either_ok, word_taken, word_found, fixed_taken, fixed_found, entry_taken, entry_found}
+use Rattle.pq_tape.proofs.LineParts.{either_ok, word_found, entry_taken, entry_found}
 
 abbrev Words : Type 0
 Words = List (List ℕ)
@@ -70,7 +70,7 @@ insert_taken seat ws m h =
     let r = bind_ok (answer_of b.0.value) (λ answer. at_line_end b.0.rest >>= λ end. Ok (mark seat (Insert a.0.value) answer)) m b.2 in
     let z = bind_ok (at_line_end b.0.rest) (λ end. Ok (mark seat (Insert a.0.value) r.0)) m r.2 in
     let e = entry_taken ws a.0 a.1 in
-    let last : a.0.rest ≡ b.0.value ∷ [] = word_taken a.0.rest b.0 b.1 ∙ ap (λ (t : Words). b.0.value ∷ t) (line_ends b.0.rest z.0 z.1) in
+    let last : a.0.rest ≡ b.0.value ∷ [] = word_first a.0.rest b.0 b.1 ∙ ap (λ (t : Words). b.0.value ∷ t) (line_ends b.0.rest z.0 z.1) in
     subst (λ (x : Mark). CallTaken seat (codes "+" ∷ ws) x) (ok_is (mark seat (Insert a.0.value) r.0) m z.2)
     (insert_spelled seat ws a.0.value r.0 b.0.value (answer_taken b.0.value r.0 r.1) e.key e.id (e.first ∙ ap (λ (t : Words). e.key ∷ e.id ∷ t) last) e.spells_key e.spells_id)
 
@@ -96,7 +96,7 @@ unfolding remove_of
 remove_taken seat ws m h =
     let a = bind_ok (word_at ws) (λ word. cond (bytes_eq word.value (codes "got")) (got_of seat word.rest) (cond (bytes_eq word.value (codes "empty")) (empty_of seat word.rest) (Err Word))) m h in
     let w = a.0.value in
-    let front : (v : List ℕ) → w ≡ v → v ∷ a.0.rest ≡ ws = λ v e. sym (word_taken ws a.0 a.1 ∙ ap (λ (t : List ℕ). t ∷ a.0.rest) e) in
+    let front : (v : List ℕ) → w ≡ v → v ∷ a.0.rest ≡ ws = λ v e. sym (word_first ws a.0 a.1 ∙ ap (λ (t : List ℕ). t ∷ a.0.rest) e) in
     elim (either_ok (bytes_eq w (codes "got")) (bytes_eq w (codes "empty")) (got_of seat a.0.rest) (empty_of seat a.0.rest) m Word a.2) [
       | inl p ↦ subst (λ (t : Words). CallTaken seat (codes "-" ∷ t) m) (front (codes "got") (same_word w (codes "got") p.0)) (got_taken seat a.0.rest m p.1)
       | inr p ↦ subst (λ (t : Words). CallTaken seat (codes "-" ∷ t) m) (front (codes "empty") (same_word w (codes "empty") p.0)) (empty_taken seat a.0.rest m p.1)
@@ -134,7 +134,7 @@ mark_taken seats ws m h =
     let a = bind_ok (number_at 1 seats ws) (λ seat. word_at seat.rest >>= λ word. cond (bytes_eq word.value (codes "+")) (insert_of seat.value word.rest) (cond (bytes_eq word.value (codes "-")) (remove_of seat.value word.rest) (Err Word))) m h in
     let b = bind_ok (word_at a.0.rest) (λ word. cond (bytes_eq word.value (codes "+")) (insert_of a.0.value word.rest) (cond (bytes_eq word.value (codes "-")) (remove_of a.0.value word.rest) (Err Word))) m a.2 in
     let w = b.0.value in
-    let front : (v : List ℕ) → w ≡ v → v ∷ b.0.rest ≡ a.0.rest = λ v e. sym (word_taken a.0.rest b.0 b.1 ∙ ap (λ (t : List ℕ). t ∷ b.0.rest) e) in
+    let front : (v : List ℕ) → w ≡ v → v ∷ b.0.rest ≡ a.0.rest = λ v e. sym (word_first a.0.rest b.0 b.1 ∙ ap (λ (t : List ℕ). t ∷ b.0.rest) e) in
     let call : CallTaken a.0.value a.0.rest m = elim (either_ok (bytes_eq w (codes "+")) (bytes_eq w (codes "-")) (insert_of a.0.value b.0.rest) (remove_of a.0.value b.0.rest) m Word b.2) [
       | inl p ↦ subst (λ (t : Words). CallTaken a.0.value t m) (front (codes "+") (same_word w (codes "+") p.0)) (insert_taken a.0.value b.0.rest m p.1)
       | inr p ↦ subst (λ (t : Words). CallTaken a.0.value t m) (front (codes "-") (same_word w (codes "-") p.0)) (remove_taken a.0.value b.0.rest m p.1)
@@ -242,13 +242,13 @@ pub marked_taken : (place seats : ℕ) (ws : Words) (m : Mark) → line_of place
 unfolding line_of
 marked_taken place seats ws m h =
     let a = bind_ok (word_at ws) (λ word. behind_first place seats word.value word.rest) (Marked m) h in
-    subst (λ (t : Words). MarkTaken place seats t m) (sym (word_taken ws a.0 a.1)) (behind_marked place seats a.0.value a.0.rest m (bytes_eq a.0.value (codes "left")) a.2)
+    subst (λ (t : Words). MarkTaken place seats t m) (sym (word_first ws a.0 a.1)) (behind_marked place seats a.0.value a.0.rest m (bytes_eq a.0.value (codes "left")) a.2)
 
 pub left_taken : (place seats : ℕ) (ws : Words) (left : ℕ) → line_of place seats ws ≡ Ok (Ends left) → SpellsLeft ws left × (left ≤ 1048576)
 unfolding line_of
 left_taken place seats ws left h =
     let a = bind_ok (word_at ws) (λ word. behind_first place seats word.value word.rest) (Ends left) h in
-    subst (λ (t : Words). SpellsLeft t left × (left ≤ 1048576)) (sym (word_taken ws a.0 a.1)) (behind_ends place seats a.0.value a.0.rest left (bytes_eq a.0.value (codes "left")) refl a.2)
+    subst (λ (t : Words). SpellsLeft t left × (left ≤ 1048576)) (sym (word_first ws a.0 a.1)) (behind_ends place seats a.0.value a.0.rest left (bytes_eq a.0.value (codes "left")) refl a.2)
 
 -- `left` spells no number
 left_spells_not : (word : List ℕ) (n : ℕ) → Spells word n → bytes_eq word (codes "left") ≡ false
