@@ -2,7 +2,7 @@
 use Rattle.std.specs.Prelude.{ℕ, ◌≡◌, ◌≢◌, ◌≤◌, Bool, true, false, List, [], ◌∷◌, length, nat_eq, Contains, refl}
 use Rattle.std.specs.List.{IsDistinct}
 use Rattle.std.proofs.Common.{lit≤, arith}
-use Rattle.bb_problem.specs.Tree.{Tree, below, names}
+use Rattle.bb_problem.specs.Tree.{Tree, names}
 use Rattle.bb_problem.specs.Expanding.{StandBelow}
 
 abbrev pub children_of : List ℕ → List ℕ

@@ -1,4 +1,4 @@
-pub mod Order
+pub mod Taking
 pub mod Replayed
 pub mod Places
 pub mod Alone

@@ -1,5 +1,6 @@
-//! The plain queue: a sorted ring of entries with one caller, the yardstick of the shared queues.
+//! The plain queue: a heap of entries with one caller, the yardstick of the shared queues.
 
+mod heap;
 mod pass;
 mod queue;
 mod steps;

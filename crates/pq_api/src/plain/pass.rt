@@ -1,16 +1,16 @@
-ghost use Rattle.std.specs.Prelude.{◌≡◌, ℕ, ◌+◌, ◌-◌, ◌^◌, ◌<◌, ◌≤◌, ◌↔◌, List, [], length, IfOk};
-ghost use Rattle.std.specs.VecDeque.{deque_len, deque_capacity};
+ghost use Rattle.std.specs.Prelude.{◌≡◌, ℕ, ◌+◌, ◌-◌, ◌^◌, ◌<◌, ◌≤◌, ◌↔◌, List, [], length, IfOk, IfErr};
+ghost use Rattle.std.specs.BinaryHeap.{heap_items, heap_capacity};
 ghost use Rattle.pq_words.specs.declared.entries.Entry.{Entry};
 ghost use Rattle.pq_model.specs.declared.marks.Act.TheVariants.{Insert, Remove};
 ghost use Rattle.pq_model.specs.declared.marks.Reply.TheVariants.{Full, Empty};
 ghost use Rattle.pq_model.specs.declared.marks.Mark.{Mark};
-ghost use Rattle.pq_model.specs.Multiset.{add, IsRising};
 ghost use Rattle.pq_model.specs.History.{IsStep, after};
 ghost use Rattle.pq_model.specs.Passes.{Knows, Witnesses, fresh, with_front};
 ghost use Rattle.pq_api.specs.Answers.{IsInserted, IsRemoved, insert_reply, remove_reply};
 ghost use Rattle.pq_api.specs.Closing.{IsClosed};
 ghost use Rattle.pq_api.specs.Plain.{Plain, IsKept, held};
 
+use super::heap::{Numbers, drained, put, take_least};
 use super::steps::{PlainSeat, PlainTable, draw, load};
 use crate::{Closed, Inserted, Removed};
 use atomic_table::Table;
@@ -18,7 +18,7 @@ use pq_io::NoMemory;
 use pq_model::{Act, Receipt, Reply};
 use pq_words::Entry;
 use std::alloc::Global;
-use std::collections::VecDeque;
+use std::collections::BinaryHeap;
 use std::marker::Model;
 
 /// The one pass of a plain queue, which holds the entries. Its number is 1.
@@ -27,7 +27,7 @@ use std::marker::Model;
 /// entries that it holds are those that these calls leave.
 #[derive(Drop)]
 pub struct PlainPass {
-    entries: VecDeque<Entry>,
+    numbers: Numbers,
     capacity: u32,
     table: PlainTable,
     seat: PlainSeat,
@@ -38,17 +38,17 @@ impl Model for PlainPass {
 
     ghost view = { λ p. record { capacity = p.capacity; known = p.seat.me.0 } };
 
-    ghost invariant = { λ p. IsKept p.capacity p.seat.me.0 p.entries.items × (p.seat.table_id ≡ p.table.shared.table_id) × (p.table.shared.table_id.words ≡ 1) × (p.capacity ≤ deque_capacity p.entries) };
+    ghost invariant = { λ p. IsKept p.capacity p.seat.me.0 (heap_items p.numbers) × (p.seat.table_id ≡ p.table.shared.table_id) × (p.table.shared.table_id.words ≡ 1) × (p.capacity ≤ heap_capacity p.numbers) };
 }
 
 impl PlainPass {
     pub(crate) fn new(alloc: Global, capacity: u32) -> Result<PlainPass, NoMemory>
         ensures { IfOk result (λ p. (p.capacity ≡ capacity) × (p.known ≡ fresh 1)) }
     {
-        let entries = VecDeque::with_capacity(alloc, capacity as usize)?;
+        let numbers = BinaryHeap::with_capacity(alloc, capacity as usize)?;
         let (table, seat) = Table::of_words(alloc, &[0], &())?;
         Ok(PlainPass {
-            entries,
+            numbers,
             capacity,
             table,
             seat,
@@ -58,7 +58,7 @@ impl PlainPass {
     /// Adds an entry, as `insert` of a shared queue does, and returns always. `Full` comes exactly where as
     /// many entries are held as the capacity is.
     ///
-    /// The place is found by a binary search, and the shorter of the two sides moves. No memory is taken.
+    /// Takes O(log n) where n entries are held, and no memory.
     pub fn add(&mut self, e: Entry) -> Inserted
         requires { length self.old.known.calls < 2 ^ 25 - 1 }
         ensures capacity { self.new.capacity ≡ self.old.capacity }
@@ -68,8 +68,8 @@ impl PlainPass {
         ensures full { (insert_reply result ≡ Full) ↔ (length (held self.old) ≡ self.old.capacity) }
         ensures holds { held self.new ≡ after (held self.old) (Insert e) (insert_reply result) }
     {
-        if self.entries.len() < self.capacity as usize {
-            put(&mut self.entries, e);
+        if self.numbers.len() < self.capacity as usize {
+            put(&mut self.numbers, e);
             let place = draw(&self.table, &mut self.seat, Act::Insert(e), Reply::Done);
             Inserted::Done(Receipt { place })
         } else {
@@ -79,7 +79,7 @@ impl PlainPass {
     }
 
     /// Takes the least entry, by key and then by id, as `remove` of a shared queue does, and returns always.
-    /// `Empty` comes exactly where none is held. Nothing is moved, and no memory is taken.
+    /// `Empty` comes exactly where none is held. Takes O(log n) where n entries are held, and no memory.
     pub fn take(&mut self) -> Removed
         requires { length self.old.known.calls < 2 ^ 25 - 1 }
         ensures capacity { self.new.capacity ≡ self.old.capacity }
@@ -89,7 +89,7 @@ impl PlainPass {
         ensures empty { (remove_reply result ≡ Empty) ↔ (held self.old ≡ []) }
         ensures holds { held self.new ≡ after (held self.old) Remove (remove_reply result) }
     {
-        match self.entries.pop_front() {
+        match take_least(&mut self.numbers) {
             Some(e) => {
                 let place = draw(&self.table, &mut self.seat, Act::Remove, Reply::Got(e));
                 Removed::Got(e, Receipt { place })
@@ -109,20 +109,23 @@ impl PlainPass {
         load(&self.table, &mut self.seat)
     }
 
-    pub(crate) fn finish(mut self) -> Closed
-        ensures { IsClosed 1 self.capacity self.known result }
+    // The length of the history and the entries left, or the pass, where there is no memory for their list.
+    pub(crate) fn finish(mut self, alloc: Global) -> Result<Closed, PlainPass>
+        ensures closed { IfOk result (IsClosed 1 self.capacity self.known) }
+        ensures same { IfErr result (λ p. p ≡ self) }
     {
+        let Ok(list) = Vec::with_capacity(alloc, self.numbers.len()) else {
+            return Err(self);
+        };
         let length = load(&self.table, &mut self.seat);
         let PlainPass {
-            entries,
+            numbers,
             capacity: _,
             table: _,
             seat: _,
         } = self;
-        Closed {
-            left: entries.into_vec(),
-            length,
-        }
+        let left = drained(numbers, list);
+        Ok(Closed { left, length })
     }
 
     // Each plain pass has the number 1, so two of them are never apart.
@@ -132,23 +135,4 @@ impl PlainPass {
         let _mine = &self.capacity;
         let _theirs = &other.capacity;
     }
-
-    pub(crate) fn is_alone(&self)
-        ensures { self.now.known.joined ≡ [] }
-    {
-        let _mine = &self.capacity;
-    }
-}
-
-// Puts the entry at its place in the order.
-fn put(entries: &mut VecDeque<Entry>, e: Entry)
-    requires rising { IsRising entries.old.items }
-    requires room { deque_len entries.old < deque_capacity entries.old }
-    ensures items { entries.new.items ≡ add e entries.old.items }
-    ensures room { deque_capacity entries.old ≤ deque_capacity entries.new }
-{
-    let at = entries.partition_point(|held| held.raw() < e.raw());
-    let Ok(()) = entries.insert(at, e) else {
-        unreachable!()
-    };
 }

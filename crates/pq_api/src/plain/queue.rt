@@ -2,17 +2,18 @@ ghost use Rattle.std.specs.Prelude.{◌≡◌, ◌≤◌};
 ghost use Rattle.std.proofs.Common.{rules};
 
 use super::pass::PlainPass;
-use crate::{CloseRefusal, Closed, Inserted, Open, Removed, SharedQueue};
+use crate::{CloseRefusal, CloseWhy, Closed, Inserted, Open, Removed, SharedQueue};
 use pq_io::NoMemory;
 use pq_words::Entry;
 use std::alloc::Global;
 use std::sync::Wait;
 
-/// A queue with one caller. Its one pass holds the entries, in a ring that rises from its head, with room
+/// A queue with one caller. Its one pass holds the entries, in a binary heap of their numbers, with room
 /// for the capacity reserved when the queue is opened.
 ///
-/// The least entry is taken in constant time. An insert takes a binary search and moves the shorter of the
-/// two sides. As all passes have the number 1, no two of them can meet or be joined.
+/// An insert and a removal take O(log n) where n entries are held, and no memory. A close takes O(n log n),
+/// and memory for the list of what is left. As all passes have the number 1, no two of them can meet or be
+/// joined.
 #[derive(Drop)]
 pub struct PlainQueue {
     capacity: u32,
@@ -79,10 +80,16 @@ impl SharedQueue for PlainQueue {
 
     fn close(
         self,
-        _alloc: Global,
+        alloc: Global,
         pass: Self::Pass,
     ) -> Result<Closed, CloseRefusal<Self, Self::Pass>> {
-        pass.is_alone();
-        Ok(pass.finish())
+        match pass.finish(alloc) {
+            Ok(closed) => Ok(closed),
+            Err(pass) => Err(CloseRefusal {
+                queue: self,
+                pass,
+                why: CloseWhy::NoMemory,
+            }),
+        }
     }
 }
