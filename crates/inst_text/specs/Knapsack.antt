@@ -1,14 +1,14 @@
 -- A knapsack instance and a choice of its items, their limits, and their texts.
-use Rattle.std.specs.Prelude.{ℕ, zero, suc, ◌+◌, ◌-◌, ◌≤◌, ◌<◌, nat_le, if◌then◌else◌, List, [], ◌∷◌, length, map, codes, Result, Ok, Err}
+use Rattle.std.specs.Prelude.{ℕ, ◌+◌, ◌-◌, ◌≤◌, ◌<◌, List, [], ◌∷◌, length, map, codes, Result, Ok}
 use Rattle.std.specs.List.{AllByRecursion}
 use Rattle.std.specs.Fmt.{decimal}
 use Rattle.pq_io.specs.declared.text.fault.Cause.{Cause}
-use Rattle.pq_io.specs.declared.text.fault.Cause.TheVariants.{TooLarge}
 use Rattle.pq_io.specs.declared.text.fault.BadInput.{BadInput}
 use Rattle.pq_io.specs.Lines.{Line, Text, text_of}
-use Rattle.pq_io.specs.Reading.{◌>>=◌, Read, Spells, number_at, at_line_end, line_at, at_text_end}
+use Rattle.pq_io.specs.Reading.{◌>>=◌, Read, Spells, number_at, at_line_end, line_at}
 use Rattle.pq_io.specs.Writing.{lines_text}
 use Rattle.inst_text.specs.declared.knapsack.Item.{Item}
+use Rattle.inst_text.specs.Several.{several, EachLine, whole}
 
 -- an instance without where it lies in memory
 pub record Instance : Type 0 where
@@ -48,12 +48,8 @@ item_of room words = do
   Ok (record { weight = weight.value; value = value.value })
 
 -- The lines of n items, whose values may add up to at most room.
-unfoldable pub items_at : ℕ → ℕ → Text → Result (Read (List Item) Text) BadInput
-items_at zero room text = Ok (record { value = []; rest = text })
-items_at (suc n) room text = do
-  item ← line_at (item_of room) text
-  items ← items_at n (room - item.value.value) item.rest
-  Ok (record { value = item.value ∷ items.value; rest = items.rest })
+abbrev pub items_at : ℕ → ℕ → Text → Result (Read (List Item) Text) BadInput
+items_at n room text = several (λ r. line_at (item_of r)) (λ r item. r - item.value) n room text
 
 -- An instance, and what is left behind it.
 unfoldable pub instance_at : Text → Result (Read Instance Text) BadInput
@@ -62,16 +58,9 @@ instance_at text = do
   items ← items_at head.value.0 67108863 head.rest
   Ok (record { value = record { capacity = head.value.1; items = items.value }; rest = items.rest })
 
--- the instance that a text reads as, or its first fault
-unfoldable pub knapsack_in : Text → Result Instance BadInput
-knapsack_in text = do
-  read ← instance_at text
-  end ← at_text_end read.rest.lines
-  Ok read.value
-
--- the same of bytes, of which there are at most 67,108,864
+-- the instance that these bytes read as, or their first fault
 unfoldable pub knapsack_of : List ℕ → Result Instance BadInput
-knapsack_of bytes = if nat_le (length bytes) 67108864 then knapsack_in (text_of bytes) else Err (record { line = 0; cause = TooLarge })
+knapsack_of bytes = whole instance_at bytes
 
 -- The line is two words, which spell these two numbers.
 abbrev pub SpellsTwo : List (List ℕ) → ℕ → ℕ → Type 0
@@ -80,9 +69,7 @@ SpellsTwo words m n = ⊥
 
 -- Each line spells the weight and the value of the item at its place.
 abbrev pub SpellItems : List Line → List Item → Type 0
-SpellItems [] [] = Unit {0}
-SpellItems (l ∷ ls) (i ∷ is) = SpellsTwo l.words i.weight i.value × SpellItems ls is
-SpellItems ls is = ⊥
+SpellItems ls is = EachLine (λ words (i : Item). SpellsTwo words i.weight i.value) ls is
 
 -- The first line spells how many items there are, and the capacity; each further line spells an item.
 abbrev pub SpellKnapsack : List Line → Instance → Type 0
@@ -106,6 +93,9 @@ knapsack_lines i = two_words (length i.items) i.capacity ∷ map (λ (j : Item).
 abbrev pub knapsack_text : Instance → List ℕ
 knapsack_text i = lines_text (knapsack_lines i)
 
+abbrev pub choice_lines : ℕ → List ℕ → List (List (List ℕ))
+choice_lines value numbers = (codes "value" ∷ decimal value ∷ []) ∷ (codes "items" ∷ map decimal numbers) ∷ []
+
 -- the text of a choice and its value
 abbrev pub choice_text : ℕ → List ℕ → List ℕ
-choice_text value numbers = lines_text ((codes "value" ∷ decimal value ∷ []) ∷ (codes "items" ∷ map decimal numbers) ∷ [])
+choice_text value numbers = lines_text (choice_lines value numbers)

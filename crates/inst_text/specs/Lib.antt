@@ -1,1 +1,4 @@
+pub mod Several
 pub mod Knapsack
+pub mod Shop
+pub mod Plans

@@ -3,6 +3,7 @@ mod reading;
 mod writing;
 
 pub use laws::{knapsack_texts_are_read, written_knapsacks_are_read};
+pub(crate) use reading::next_knapsack;
 pub use reading::read_knapsack;
 use std::marker::Model;
 pub use writing::write_choice;

@@ -2,8 +2,19 @@
 #![tactic(auto)]
 
 mod knapsack;
+mod plan;
+mod shop;
+mod size;
 
 pub use knapsack::{
     Choice, Item, Items, knapsack_texts_are_read, read_knapsack, write_choice,
     written_knapsacks_are_read,
+};
+pub use plan::{
+    Claimed, choices_are_read_behind, knapsack_plan_texts_are_read, read_plan_knapsack,
+    read_plan_shop, shop_plan_texts_are_read, starts_are_read_behind, written_choices_are_read,
+    written_starts_are_read,
+};
+pub use shop::{
+    Jobs, Operation, Starts, read_shop, shop_texts_are_read, write_starts, written_shops_are_read,
 };

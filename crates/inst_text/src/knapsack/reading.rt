@@ -1,14 +1,12 @@
-ghost use Rattle.std.specs.Prelude.{◌≡◌, ◌≤◌, ◌^◌, ◌<◌, IfOk, Ok};
-ghost use Rattle.std.specs.List.{AllByRecursion};
+ghost use Rattle.std.specs.Prelude.{◌≡◌, ◌^◌, ◌<◌, IfOk, Ok};
 ghost use Rattle.pq_io.specs.Reading.{Leaves, Gives, GivesAndLeaves, line_at};
 ghost use Rattle.inst_text.specs.Knapsack.{head_of, item_of, items_at, instance_at, knapsack_of, Instance, IsKnapsackText};
 
 use crate::knapsack::{Item, Items};
+use crate::size::open_text;
 use pq_io::{BadInput, Cause, ReadRefusal, TextReader, WordReader, on_line};
 use std::alloc::Global;
 
-/// The most bytes that a text may have.
-const TEXT_LIMIT: usize = 67_108_864;
 /// The most that all values may add up to.
 const VALUE_LIMIT: u64 = 67_108_863;
 
@@ -79,7 +77,7 @@ fn next_items(
 
 /// Takes the lines of an instance.
 #[tactic(auto, unfolding(crate::specs::Knapsack::instance_at))]
-fn next_knapsack(alloc: Global, text: &mut TextReader<'_>) -> Result<Items, ReadRefusal>
+pub(crate) fn next_knapsack(alloc: Global, text: &mut TextReader<'_>) -> Result<Items, ReadRefusal>
     ensures { GivesAndLeaves (λ i. i) result text.new (instance_at text.old) }
 {
     let (count, capacity) = next_head(text)?;
@@ -103,17 +101,12 @@ pub fn read_knapsack(alloc: Global, bytes: &[u8]) -> Result<Items, ReadRefusal>
     whole_knapsack(alloc, bytes)
 }
 
-#[tactic(auto, unfolding(crate::specs::Knapsack::knapsack_of, crate::specs::Knapsack::knapsack_in))]
+/// What `read_knapsack` gives, read off its definition.
+#[tactic(auto, unfolding(crate::specs::Knapsack::knapsack_of, crate::specs::Several::whole))]
 fn whole_knapsack(alloc: Global, bytes: &[u8]) -> Result<Items, ReadRefusal>
     ensures { Gives (λ i. i) result (knapsack_of bytes.now) }
 {
-    if bytes.len() > TEXT_LIMIT {
-        return Err(ReadRefusal::BadInput(BadInput {
-            line: 0,
-            cause: Cause::TooLarge,
-        }));
-    }
-    let mut text = TextReader::new(bytes);
+    let mut text = open_text(bytes)?;
     let items = next_knapsack(alloc, &mut text)?;
     text.finish()?;
     Ok(items)

@@ -1,12 +1,15 @@
-use Rattle.std.proofs.Common.{◌∙◌, ◌≡◌, ◌++◌, ◌∷◌, [], codes, decimal, ap, take, List, ℕ, arith}
-use Rattle.std.proofs.lemmas.List.{take_all}
-use Rattle.inst_text.proofs.ChoiceText.{spaced, choice_written}
+use Rattle.inst_text.proofs.SpacedNumbers.{choice_written}
 use Rattle.inst_text.proofs.knapsack.writing.write_choice.Goals as goal
 
 pub returns : goal.returns
 returns c =
-    let ns = c.deref-number-items.result.now in
-    let whole : take c.loop-number.number-index ns ≡ ns = take_all c.loop-number.number-index ns (omega arith) in
-    c.in_ok-push-2.ensures.items
-    ∙ ap (λ (t : List ℕ). t ++ 10 ∷ []) (c.loop-number.invariant ∙ ap (λ (t : List ℕ). codes "value " ++ decimal c.args.value ++ codes "\nitems" ++ spaced t) (whole ∙ c.deref-number-items.ensures.value ∙ c.choice.view_is))
-    ∙ choice_written c.args.value c.args.choice.now
+    rw (
+      c.in_ok-push.ensures.items,
+      c.in_ok-write_numbers.ensures,
+      c.in_ok-extend_from_slice.ensures.items,
+      c.in_ok-write_number.ensures.ok,
+      c.in_ok-text.ensures.items,
+      c.from.ensures,
+      c.deref.ensures.value,
+      c.choice.view_is,
+    ) (choice_written c.args.value c.args.choice.now)

@@ -1,0 +1,52 @@
+-- Reading one after the other, and reading a whole text.
+use Rattle.std.specs.Prelude.{ℕ, zero, suc, nat_le, if◌then◌else◌, ◌≡◌, List, [], ◌∷◌, ◌++◌, length, Result, Ok, Err}
+use Rattle.pq_io.specs.declared.text.fault.Cause.{Cause}
+use Rattle.pq_io.specs.declared.text.fault.Cause.TheVariants.{TooLarge}
+use Rattle.pq_io.specs.declared.text.fault.BadInput.{BadInput}
+use Rattle.pq_io.specs.Lines.{Line, Text, text_of}
+use Rattle.pq_io.specs.Reading.{◌>>=◌, Read, on_line, at_text_end}
+
+-- n readings one after the other: each is made in a state, and what it read says in which state the next one is made.
+unfoldable pub several : {S A Rest E : Type 0} → (S → Rest → Result (Read A Rest) E) → (S → A → S) → ℕ → S → Rest → Result (Read (List A) Rest) E
+several read next zero s rest = Ok (record { value = []; rest = rest })
+several read next (suc n) s rest = do
+  x ← read s rest
+  xs ← several read next n (next s x.value) x.rest
+  Ok (record { value = x.value ∷ xs.value; rest = xs.rest })
+
+-- a reading of words, whose faults are told with the number of the line
+abbrev pub told : {S A : Type 0} → ℕ → (S → List (List ℕ) → Result A Cause) → S → List (List ℕ) → Result A BadInput
+told line read s words = on_line line (read s words)
+
+-- Each line means the value at its place.
+abbrev pub EachLine : {A : Type 0} → (List (List ℕ) → A → Type 0) → List Line → List A → Type 0
+EachLine Means [] [] = Unit {0}
+EachLine Means (l ∷ ls) (x ∷ xs) = Means l.words x × EachLine Means ls xs
+EachLine Means ls xs = ⊥
+
+-- one reading, and behind it another, which knows what the first one read
+unfoldable pub both : {A B : Type 0} → (Text → Result (Read A Text) BadInput) → (A → Text → Result (Read B Text) BadInput) → Text → Result (Read (A × B) Text) BadInput
+both first second text = do
+  a ← first text
+  b ← second a.value a.rest
+  Ok (record { value = (a.value, b.value); rest = b.rest })
+
+-- Some lines mean the first, and the lines behind them the second.
+pub record Follow {A B : Type 0} (First : List Line → A → Type 0) (Second : List Line → B → Type 0) (lines : List Line) (a : A) (b : B) : Type 0 where
+  pub front : List Line
+  pub back : List Line
+  pub lines_are : lines ≡ front ++ back
+  pub first : First front a
+  pub second : Second back b
+
+-- the text of these bytes, of which there are at most 67,108,864
+abbrev pub text_within : List ℕ → Result Text BadInput
+text_within bytes = if nat_le (length bytes) 67108864 then Ok (text_of bytes) else Err (record { line = 0; cause = TooLarge })
+
+-- what a whole text reads as: no line is left behind it
+unfoldable pub whole : {A : Type 0} → (Text → Result (Read A Text) BadInput) → List ℕ → Result A BadInput
+whole read bytes = do
+  text ← text_within bytes
+  x ← read text
+  end ← at_text_end x.rest.lines
+  Ok x.value
