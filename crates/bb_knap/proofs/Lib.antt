@@ -3,3 +3,4 @@ pub mod Bits
 pub mod Prefixes
 pub mod Chosen
 pub mod Expanded
+pub mod OneVerdict

@@ -3,12 +3,12 @@ use Rattle.std.proofs.Common.{◌≡◌, ℕ, zero, suc, ◌+◌, ◌-◌, ◌*�
 use Rattle.std.specs.List.{AllByRecursion}
 use Rattle.std.proofs.lemmas.Bool.{cases_lt}
 use Rattle.std.proofs.lemmas.Bool.Decides.{leb_tells}
-use Rattle.std.proofs.lemmas.List.{take_more, take-append-drop, drop-drop, append-nil, get_or_append_left, get_or_push}
+use Rattle.std.proofs.lemmas.List.{take_more, take-append-drop, drop-drop, append-nil, at_drop_more, get_or_append_left, get_or_push}
 use Rattle.std.proofs.Math.Seq.{drop-cons, take-add}
 use Rattle.std.proofs.Math.Nat.{div-le_of_le-mul, mul-le-mul_right}
 use Rattle.std.proofs.Math.ListN.{drop_of_length-le}
 use Rattle.inst_text.specs.declared.knapsack.Item.{Item}
-use Rattle.inst_text.specs.Knapsack.{Instance, IsInstance, total_value}
+use Rattle.inst_text.specs.Knapsack.{Instance, IsInstance, AreNumbers, total_value}
 use Rattle.bb_knap.specs.Plans.{item_at, weight_of, value_of}
 use Rattle.bb_knap.specs.Order.{order_of}
 use Rattle.bb_knap.specs.Branching.{dantzig}
@@ -48,6 +48,18 @@ item_weight-le (i ∷ is) (suc k) light = item_weight-le is k (light.1)
 weight_of-le : (items : List Item) (ks : List ℕ) → AllByRecursion (λ (j : Item). j.weight ≤ 1000000000) items → weight_of items ks ≤ 1000000000 * length ks
 weight_of-le items [] light = omega arith
 weight_of-le items (k ∷ ks) light = omega (arith, item_weight-le items k light, weight_of-le items ks light)
+
+length-numbers : (low n : ℕ) (ks : List ℕ) → AreNumbers low n ks → length ks ≤ n - low
+length-numbers low n [] numbers = omega arith
+length-numbers low n (k ∷ ks) numbers = omega (arith, numbers.0, numbers.1, length-numbers (k + 1) n ks numbers.2)
+
+-- a choice weighs little
+pub weight_of-numbers-le : (items : List Item) (ks : List ℕ) → AreNumbers 0 1024 ks → AllByRecursion (λ (j : Item). j.weight ≤ 1000000000) items → weight_of items ks ≤ 1024000000000
+weight_of-numbers-le items ks numbers light = omega (arith, weight_of-le items ks light, length-numbers 0 1024 ks numbers)
+
+-- the weight of the numbers from one place on: that of the number there, and of those behind it
+pub weight_of-drop : (items : List Item) (ks : List ℕ) (i : ℕ) → i < length ks → weight_of items (drop i ks) ≡ (item_at items (get_or ks i 0)).weight + weight_of items (drop (i + 1) ks)
+weight_of-drop items ks i inside = at_drop_more (weight_of items) ks i 0 inside
 
 -- all items weigh little
 pub weight_of-order-le : (i : Instance) → IsInstance i → weight_of i.items (order_of i.items) ≤ 1024000000000

@@ -1,4 +1,5 @@
 pub mod Plans
+pub mod Verdicts
 pub mod Order
 pub mod Branching
 pub mod Decisions

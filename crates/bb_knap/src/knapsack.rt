@@ -1,12 +1,14 @@
 ghost use Rattle.std.specs.Prelude.{◌≡◌, ◌≤◌, drop, length, IfOk};
 ghost use Rattle.inst_text.specs.Knapsack.{IsInstance, total_value};
-ghost use Rattle.bb_knap.specs.Plans.{IsChoiceOf, value_of, cost_of};
+ghost use Rattle.bb_knap.specs.Plans.{IsChoiceOf, weight_of, value_of, cost_of};
+ghost use Rattle.bb_knap.specs.Verdicts.{IsVerdict};
 ghost use Rattle.bb_knap.specs.Order.{order_of};
 ghost use Rattle.bb_knap.specs.Branching.{dantzig, root_bound};
 
 use crate::dantzig::dantzig_from;
 use crate::order::{item_order, numbered_item};
 use crate::sums::{value_sums, weight_sums};
+use crate::verdict::KnapVerdict;
 use inst_text::{Choice, Item, Items};
 use pq_io::NoMemory;
 use std::alloc::Global;
@@ -22,6 +24,13 @@ pub struct Knapsack {
     order: Vec<u32>,
     weights: Vec<u64>,
     values: Vec<u32>,
+}
+
+/// What some items weigh and are worth together.
+#[derive(Clone, Copy)]
+struct Load {
+    weight: u64,
+    value: u32,
 }
 
 impl Model for Knapsack {
@@ -51,7 +60,7 @@ impl Knapsack {
         })
     }
 
-    /// The greatest weight that a feasible choice has, at most 1,000,000,000,000. Constant time.
+    /// The greatest weight that a feasible choice may have, at most 1,000,000,000,000. Constant time.
     pub fn capacity(&self) -> u64
         ensures capacity { result ≡ self.now.capacity }
         ensures within_limits { IsInstance self.now }
@@ -97,12 +106,39 @@ impl Knapsack {
         ensures value { result ≡ value_of self.now.items choice.now }
         ensures at_most { result ≤ total_value self.now.items }
     {
+        self.load_of(choice).value
+    }
+
+    /// The verdict on the choice and the value that is stated for it. It takes no memory. One pass over the choice.
+    pub fn judge(&self, choice: &Choice, stated: u32) -> KnapVerdict
+        requires { IsChoiceOf self.now choice.now }
+        ensures { IsVerdict self.now choice.now stated result }
+    {
+        let load = self.load_of(choice);
+        if self.capacity() < load.weight {
+            return KnapVerdict::BadWeight(load.weight);
+        }
+        if load.value != stated {
+            return KnapVerdict::BadValue(load.value);
+        }
+        KnapVerdict::Feasible
+    }
+
+    /// What the chosen items weigh and are worth. Numbers that no item has add nothing.
+    fn load_of(&self, choice: &Choice) -> Load
+        ensures weight { result.weight ≡ weight_of self.now.items choice.now }
+        ensures value { result.value ≡ value_of self.now.items choice.now }
+        ensures at_most { result.value ≤ total_value self.now.items }
+    {
         let items = self.items();
+        let mut weight = 0;
         let mut value = 0;
         for number in &choice.numbers {
-            value += numbered_item(items, *number).value;
+            let item = numbered_item(items, *number);
+            weight += u64::from(item.weight);
+            value += item.value;
         }
-        value
+        Load { weight, value }
     }
 
     /// Dantzig's bound of all items with the whole capacity, at most 67,108,863: no feasible choice is worth

@@ -2,6 +2,8 @@ ghost use Rattle.std.specs.Prelude.{ℕ, ◌+◌, ◌≡◌, ◌≤◌, ◌↔�
 ghost use Rattle.inst_text.specs.Knapsack.{Instance, total_value};
 ghost use Rattle.bb_knap.specs.Plans.{IsChoiceOf, IsFeasible, IsBest, IsCheapest, value_of, cost_of};
 ghost use Rattle.bb_knap.specs.Branching.{root_bound};
+ghost use Rattle.bb_knap.specs.declared.verdict.KnapVerdict.{KnapVerdict};
+ghost use Rattle.bb_knap.specs.Verdicts.{IsVerdict};
 
 /// Law: what a choice is worth and what it costs make up the sum of all values.
 pub fn value_and_cost_are_all()
@@ -18,4 +20,11 @@ pub fn best_is_cheapest()
 /// (G. B. Dantzig, Discrete-variable extremum problems, 1957).
 pub fn root_bound_is_bound()
     ensures { (i : Instance) (choice : List ℕ) → IsFeasible i choice → value_of i.items choice ≤ root_bound i }
+{}
+
+/// Law: a choice with the value that is stated for it has one verdict and no other.
+#[tactic(auto, using(crate::proofs::OneVerdict::verdict_is_one))]
+pub fn one_verdict()
+    ensures { (i : Instance) (choice : List ℕ) (stated : ℕ) (v w : KnapVerdict) → IsVerdict i choice stated v
+        → IsVerdict i choice stated w → v ≡ w }
 {}

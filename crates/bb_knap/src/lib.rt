@@ -13,7 +13,9 @@ mod problem;
 mod sums;
 #[cfg(test)]
 mod tests;
+mod verdict;
 
 pub use knapsack::Knapsack;
-pub use laws::{best_is_cheapest, root_bound_is_bound, value_and_cost_are_all};
+pub use laws::{best_is_cheapest, one_verdict, root_bound_is_bound, value_and_cost_are_all};
 pub use node::KnapNode;
+pub use verdict::KnapVerdict;

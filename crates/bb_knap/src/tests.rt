@@ -1,6 +1,7 @@
-ghost use Rattle.inst_text.specs.Knapsack.{IsInstance};
+ghost use Rattle.std.specs.Prelude.{◌≡◌, IfOk};
+ghost use Rattle.inst_text.specs.Knapsack.{IsInstance, AreNumbers};
 
-use crate::{KnapNode, Knapsack};
+use crate::{KnapNode, KnapVerdict, Knapsack};
 use bb_problem::{Problem, Step};
 use inst_text::{Choice, Item, Items};
 use pq_io::NoMemory;
@@ -87,6 +88,7 @@ const MIXED: [Item; 4] = [
 
 fn knapsack(alloc: Global, capacity: u64, items: &[Item]) -> Result<Knapsack, NoMemory>
     requires { IsInstance (record { capacity = capacity; items = items.now }) }
+    ensures { IfOk result (λ k. k ≡ record { capacity = capacity; items = items.now }) }
 {
     let items = Items {
         capacity,
@@ -133,6 +135,26 @@ fn reads_a_knapsack(rt: HostRuntime) -> Result<(), Fail> {
     };
     assert_eq!(rt; three.value_of(&ends), 8);
     assert_eq!(rt; three.cost(&ends), 4);
+    Ok(())
+}
+
+// the verdict on a choice of three items with capacity 5
+fn judged(alloc: Global, numbers: &[u32], stated: u32) -> Result<KnapVerdict, NoMemory>
+    requires limits { AreNumbers 0 1024 numbers.now }
+    requires three { AreNumbers 0 3 numbers.now }
+{
+    let choice = Choice {
+        numbers: Vec::from_slice(alloc, numbers)?,
+    };
+    Ok(knapsack(alloc, 5, &THREE)?.judge(&choice, stated))
+}
+
+#[test]
+fn judges_choices(rt: HostRuntime) -> Result<(), Fail> {
+    let alloc = rt.alloc();
+    assert_eq!(rt; judged(alloc, &[0, 2], 7)?, KnapVerdict::BadWeight(6));
+    assert_eq!(rt; judged(alloc, &[0, 1], 8)?, KnapVerdict::BadValue(7));
+    assert_eq!(rt; judged(alloc, &[0, 1], 7)?, KnapVerdict::Feasible);
     Ok(())
 }
 
