@@ -1,0 +1,10 @@
+pub mod WorkedShops
+pub mod Tabled
+pub mod Lading
+pub mod Kept
+pub mod Rows
+pub mod Remaining
+pub mod Planned
+pub mod Standing
+pub mod OneVerdict
+pub mod Ends

@@ -1,0 +1,11 @@
+pub mod Plans
+pub mod Dispatching
+pub mod Bounds
+pub mod Branching
+pub mod Verdicts
+pub mod Laws
+pub mod Worked
+pub mod Tables
+pub mod Loading
+pub mod Working
+pub mod Judging

@@ -1,0 +1,21 @@
+-- How the program keeps what operations ask of a machine.
+use Rattle.std.specs.Prelude.{ℕ, ◌+◌, List, min, nat_eq, if◌then◌else◌, slice_index_or}
+use Rattle.bb_shop.specs.declared.machine_load.MachineLoad.{MachineLoad}
+use Rattle.bb_shop.specs.Bounds.{Load, Idle, Busy}
+
+-- Of no operations: the least head and the least tail are the greatest numbers, and the time is 0.
+abbrev pub unloaded : MachineLoad
+unloaded = record { head = 4294967295; time = 0; tail = 4294967295 }
+
+-- with what more operations ask of the machine
+abbrev pub laden : MachineLoad → Load → MachineLoad
+laden l Idle = l
+laden l (Busy head time tail) = record { head = min l.head head; time = l.time + time; tail = min l.tail tail }
+
+-- the load of machine m
+abbrev pub load_in : List MachineLoad → ℕ → MachineLoad
+load_in loads m = slice_index_or loads m unloaded
+
+-- the figure of a load: its least head, its time and its least tail, and 0 of no operations
+abbrev pub figure_of : MachineLoad → ℕ
+figure_of l = if nat_eq l.head 4294967295 then 0 else l.head + l.time + l.tail

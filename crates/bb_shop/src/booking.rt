@@ -1,0 +1,34 @@
+ghost use Rattle.std.specs.Prelude.{◌≡◌, ◌≤◌, ◌↔◌, IsTrue};
+ghost use Rattle.bb_shop.specs.Judging.{booked, Collide};
+
+use inst_text::Operation;
+
+/// When an operation that has a start time needs its machine.
+#[derive(Clone, Copy)]
+pub struct Booking {
+    machine: u32,
+    start: u32,
+    end: u32,
+}
+
+impl Booking {
+    /// What the operation needs if it starts at this time. Constant time.
+    pub fn new(operation: Operation, start: u32) -> Booking
+        requires time { operation.time ≤ 67108863 }
+        requires start { start ≤ 67108863 }
+        ensures { result ≡ booked operation start }
+    {
+        Booking {
+            machine: operation.machine,
+            start,
+            end: start + operation.time,
+        }
+    }
+
+    /// Tells whether both need one machine, and each starts before the other ends. Constant time.
+    pub fn collides(self, other: Booking) -> bool
+        ensures { IsTrue result ↔ Collide self other }
+    {
+        self.machine == other.machine && self.start < other.end && other.start < self.end
+    }
+}

@@ -1,0 +1,28 @@
+//! The job-shop problem: which start times are feasible, and the tree of dispatch orders in which a search
+//! looks for those that end first.
+#![tactic(auto)]
+
+mod booking;
+mod bounding;
+mod branching;
+mod judging;
+mod laws;
+mod machine_load;
+mod makespan;
+mod node;
+mod place;
+mod planning;
+mod prepared;
+mod problem;
+mod shop;
+#[cfg(test)]
+mod tests;
+mod verdict;
+
+pub use laws::{
+    best_starts_are_early, bounds_are_below, bounds_are_within, makespan_is_greatest_end,
+    one_verdict, root_bound_is_bound, schedules_are_reached, worked_shops,
+};
+pub use node::ShopNode;
+pub use shop::Shop;
+pub use verdict::ShopVerdict;

@@ -1,0 +1,13 @@
+/// Where an operation stands: its job, and its step in the job.
+#[derive(Clone, Copy)]
+pub struct Place {
+    pub job: usize,
+    pub step: usize,
+}
+
+/// Two operations, the other one a later one by job and step.
+#[derive(Clone, Copy)]
+pub struct Pair {
+    pub one: Place,
+    pub other: Place,
+}

@@ -1,0 +1,98 @@
+ghost use Rattle.std.specs.Prelude.{ℕ, List, ◌≡◌, IfOk};
+ghost use Rattle.inst_text.specs.Shop.{IsJobShop};
+ghost use Rattle.bb_problem.specs.Expanding.{IsExpanded, IsInRange, IfLeaf};
+ghost use Rattle.bb_shop.specs.Dispatching.{state_of};
+ghost use Rattle.bb_shop.specs.Plans.{IsFeasible, makespan};
+ghost use Rattle.bb_shop.specs.Branching.{Stands, Reaches, children_of, tree_of, tree_size, least_cost};
+ghost use Rattle.bb_shop.specs.Laws.Bounded.{bounded};
+ghost use Rattle.bb_shop.specs.Laws.Least.{attained, least_of_all};
+ghost use Rattle.bb_shop.specs.Laws.Reaching.{reached};
+ghost use Rattle.bb_shop.specs.Laws.TreeLaws.{passed_on, told_apart, ends, counted};
+
+use crate::branching::last_left;
+use crate::makespan::makespan_of;
+use crate::node::{LATEST, ShopNode};
+use crate::planning::plan;
+use crate::shop::Shop;
+use bb_problem::{Problem, Step};
+use inst_text::Starts;
+use pq_io::NoMemory;
+use std::alloc::Global;
+
+/// The search dispatches the jobs' operations one after another, each as early as its job and its machine allow,
+/// and bounds a node by what its jobs and machines still have to do.
+impl Problem for Shop {
+    type Node = ShopNode;
+
+    type Plan = Starts;
+
+    ghost is_problem = { IsJobShop };
+
+    ghost is_feasible = { IsFeasible };
+
+    ghost cost_of = { makespan };
+
+    ghost least = { least_cost };
+
+    ghost tree = { tree_of };
+
+    ghost tree_size = { tree_size };
+
+    ghost stands = { Stands };
+
+    ghost reaches = { Reaches };
+
+    /// The node that dispatches nothing. O(n) in the number of jobs and machines.
+    fn root(&self, alloc: Global) -> Result<ShopNode, NoMemory> {
+        ShopNode::root(alloc, self.job_count(), self.machine_count())
+    }
+
+    /// The greatest of the times at which the jobs finish at the earliest, the machines' ready times and, for each
+    /// machine, the least head, the sum of the times and the least tail of the operations left on it. One pass
+    /// over the operations that are left.
+    fn bound(&self, node: &ShopNode) -> u32 {
+        if !self.fits(node) {
+            return 0;
+        }
+        self.bound_by(node.steps(), node.jobs(), node.machines())
+            .min(LATEST)
+    }
+
+    /// The plan of a node that dispatches all operations, else a child for each job that has operations left.
+    /// O(n) in the number of operations for each child and for the plan.
+    fn expand(&self, alloc: Global, node: ShopNode) -> Result<Step<Starts, ShopNode>, NoMemory>
+        ensures range { IfOk result (IsInRange (makespan self.now)) }
+        ensures expanded { IfOk result (λ step. (name : List ℕ) → Stands self.now node name →
+            IsExpanded (IsFeasible self.now) (makespan self.now) (Stands self.now) (Reaches self.now name) name (children_of self.now name) step) }
+        // A leaf has the start times of the dispatched operations.
+        ensures leaf { IfOk result (λ step. (name : List ℕ) → Stands self.now node name → IfLeaf (λ starts. starts ≡ (state_of self.now name).starts) step) }
+    {
+        if self.fits(&node) {
+            if let Some(last) = last_left(node.steps(), self.machine_count()) {
+                return Ok(Step::Branch(self.children(alloc, node, last)?));
+            }
+        }
+        Ok(Step::Leaf(plan(alloc, self, node.order())?))
+    }
+
+    /// The makespan. One pass over the start times.
+    fn cost(&self, starts: &Starts) -> u32 {
+        makespan_of(self.jobs(), starts)
+    }
+
+    ghost reached = { reached };
+
+    ghost bounded = { bounded };
+
+    ghost passed_on = { passed_on };
+
+    ghost told_apart = { told_apart };
+
+    ghost ends = { ends };
+
+    ghost attained = { attained };
+
+    ghost least_of_all = { least_of_all };
+
+    ghost counted = { counted };
+}
