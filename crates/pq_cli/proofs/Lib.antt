@@ -1,5 +1,5 @@
 pub mod WordSteps
 pub mod Explained
-pub mod Solved
 pub mod Enough
 pub mod Reported
+pub mod Makespans

@@ -1,6 +1,7 @@
 -- What stands after the line of a status was written, or a front of it.
 use Rattle.std.proofs.Common.{◌≡◌, ◌⊎◌, ◌++◌, inl, inr, refl, sym, ap, ◌∙◌, ℕ, List, length, Option, None, Some, IfSome}
 use Rattle.std.proofs.Math.Seq.{take-length}
+use Rattle.pq_io.specs.Streams.{Rose}
 use Rattle.pq_cli.specs.declared.command.Command.{Command}
 use Rattle.pq_cli.specs.declared.status.Status.{Status}
 use Rattle.pq_cli.specs.declared.status.Status.TheVariants as statuses
@@ -8,9 +9,18 @@ use Rattle.pq_cli.specs.Answers.{IsAnswer, IsAnswered}
 use Rattle.pq_cli.specs.Texts.{fault_text}
 use Rattle.pq_cli.specs.Reports.{IsReported, IsCutLine, IsCutShort, LeavesOutput}
 
-pub cut_line : (status : Status) (before : List ℕ) (ended : Status) (now : Option (List ℕ)) → IsReported status before ended now → IsCutLine before now
-cut_line status before ended now (inl h) = (status, length (fault_text status), h.1 ∙ ap (λ xs. Some (before ++ xs)) (sym (take-length (fault_text status))))
-cut_line status before ended now (inr h) = (status, h.1.count, h.1.front)
+pub cut_line : (status : Status) (before : List ℕ) (ended : Status) (now : Option (List ℕ)) (failed failing : ℕ) → IsReported status before ended now failed failing → IsCutLine before now
+cut_line status before ended now failed failing (inl h) = (status, length (fault_text status), h.1 ∙ ap (λ xs. Some (before ++ xs)) (sym (take-length (fault_text status))))
+cut_line status before ended now failed failing (inr h) = (status, h.2.count, h.2.front)
+
+-- where no fault was counted, the whole line of the status was written
+whole_line : (status : Status) (before : List ℕ) (ended : Status) (now : Option (List ℕ)) (failed failing : ℕ) → IsReported status before ended now failed failing → ¬ Rose failed failing → now ≡ Some (before ++ fault_text ended)
+whole_line status before ended now failed failing (inl h) still = h.1 ∙ ap (λ s. Some (before ++ fault_text s)) (sym h.0)
+whole_line status before ended now failed failing (inr h) still = absurd (still h.1)
+
+pub whole_lines : (before : Option (List ℕ)) (status ended : Status) (now : Option (List ℕ)) (failed failing : ℕ) → IfSome before (λ b. IsReported status b ended now failed failing) → ¬ Rose failed failing → IfSome before (λ b. now ≡ Some (b ++ fault_text ended))
+whole_lines None status ended now failed failing h still = tt
+whole_lines (Some b) status ended now failed failing h still = whole_line status b ended now failed failing h still
 
 whole_is_cut : (command : Command) (bytes before : List ℕ) (now : Option (List ℕ)) (status : Status) (text : List ℕ) → IsAnswer command bytes status text → now ≡ Some (before ++ text) → IsCutShort command bytes before now
 whole_is_cut command bytes before now status text answers e = inr (status, text, length text, answers, e ∙ ap (λ xs. Some (before ++ xs)) (sym (take-length text)))
@@ -41,6 +51,6 @@ completed None R E A B C status ended cause h = tt
 completed (Some bytes) R E A B C status ended (inl same) h = λ reads enough a b c. rw same (h reads enough a b)
 completed (Some bytes) R E A B C status ended (inr failed) h = λ reads enough a b c. absurd (c failed.1)
 
-pub cut_lines : (before : Option (List ℕ)) (status ended : Status) (now : Option (List ℕ)) → IfSome before (λ b. IsReported status b ended now) → IfSome before (λ b. IsCutLine b now)
-cut_lines None status ended now h = tt
-cut_lines (Some b) status ended now h = cut_line status b ended now h
+pub cut_lines : (before : Option (List ℕ)) (status ended : Status) (now : Option (List ℕ)) (failed failing : ℕ) → IfSome before (λ b. IsReported status b ended now failed failing) → IfSome before (λ b. IsCutLine b now)
+cut_lines None status ended now failed failing h = tt
+cut_lines (Some b) status ended now failed failing h = cut_line status b ended now failed failing h

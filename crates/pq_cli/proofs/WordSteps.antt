@@ -1,5 +1,5 @@
 -- One step of reading the words behind a command's name.
-use Rattle.std.proofs.Common.{◌≡◌, ◌∙◌, ap, refl, ℕ, List, [], ◌∷◌, Option, None, Some}
+use Rattle.std.proofs.Common.{◌≡◌, ◌∙◌, ap, ℕ, List, [], ◌∷◌, None, Some}
 use Rattle.pq_cli.specs.declared.words.settings.Settings.{Settings}
 use Rattle.pq_cli.specs.Words.{◌>>=◌, settings_from, pair_name, with_lone, with_option, with_last, after_two}
 

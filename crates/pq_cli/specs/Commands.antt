@@ -1,10 +1,13 @@
 -- Which words are which command.
-use Rattle.std.specs.Prelude.{ℕ, ◌+◌, ◌≤◌, ◌&&◌, if◌then◌else◌, List, [], ◌∷◌, map, codes, Option, Some, None, is_none, unwrap_or, String, string_bytes}
+use Rattle.std.specs.Prelude.{ℕ, ◌+◌, ◌≤◌, ◌&&◌, if◌then◌else◌, List, [], ◌∷◌, map, codes, Option, Some, None, Result, Ok, Err, is_none, unwrap_or, String, string_bytes}
 use Rattle.std.specs.Str.{bytes_eq}
 use Rattle.std.specs.declared.alloc.Global.{Global}
 use Rattle.pq_io.specs.Reading.{is_between}
+use Rattle.pq_cli.specs.declared.command.Kind.{Kind}
 use Rattle.pq_cli.specs.declared.command.Command.{Command}
-use Rattle.pq_cli.specs.declared.command.Command.TheVariants.{Solve, Bound, Audit}
+use Rattle.pq_cli.specs.declared.command.Command.TheVariants.{Solve, Bound, Check, Audit}
+use Rattle.pq_cli.specs.declared.words.reading.WordsRefusal.{WordsRefusal}
+use Rattle.pq_cli.specs.declared.words.reading.WordsRefusal.TheVariants.{BadWords}
 use Rattle.pq_cli.specs.declared.words.settings.Settings.{Settings}
 use Rattle.pq_cli.specs.Words.{◌>>=◌, settings_from, is_silent}
 
@@ -28,10 +31,20 @@ solve_from said = do
   Some (Solve kind queue workers nodes capacity)
 
 -- a problem, and no option
+unfoldable pub kind_alone : Settings → Option Kind
+kind_alone said = do
+  kind ← said.kind
+  if is_silent said then Some kind else None
+
 unfoldable pub bound_from : Settings → Option Command
 bound_from said = do
-  kind ← said.kind
-  if is_silent said then Some (Bound kind) else None
+  kind ← kind_alone said
+  Some (Bound kind)
+
+unfoldable pub check_from : Settings → Option Command
+check_from said = do
+  kind ← kind_alone said
+  Some (Check kind)
 
 -- nothing
 unfoldable pub audit_from : Settings → Option Command
@@ -46,11 +59,18 @@ command_of [] = None
 command_of (name ∷ words) =
     if bytes_eq name (codes "solve") then settings_from nothing words >>= solve_from
     else if bytes_eq name (codes "bound") then settings_from nothing words >>= bound_from
+    else if bytes_eq name (codes "check") then settings_from nothing words >>= check_from
     else if bytes_eq name (codes "audit") then settings_from nothing words >>= audit_from
     else None
+
+-- what reading the words answers, where it takes no memory
+abbrev pub answer_of : Option Command → Result Command WordsRefusal
+answer_of (Some command) = Ok command
+answer_of None = Err BadWords
 
 -- the numbers that a command may have
 abbrev pub HasLimits : Command → Type 0
 HasLimits (Solve kind queue workers nodes capacity) = (1 ≤ nodes) × (nodes ≤ 1048560) × (1 ≤ capacity) × (capacity ≤ 1048576)
 HasLimits (Bound kind) = Unit {0}
+HasLimits (Check kind) = Unit {0}
 HasLimits Audit = Unit {0}

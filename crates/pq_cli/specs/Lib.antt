@@ -2,6 +2,8 @@ pub mod Statuses
 pub mod Words
 pub mod Commands
 pub mod Texts
+pub mod Readings
 pub mod Answers
+pub mod Causes
 pub mod Reports
 pub mod Refusals

@@ -4,7 +4,7 @@ use Rattle.std.specs.Str.{bytes_eq}
 use Rattle.pq_io.specs.declared.text.fault.Cause.{Cause}
 use Rattle.pq_io.specs.Reading.{number_of}
 use Rattle.pq_cli.specs.declared.command.Kind.{Kind}
-use Rattle.pq_cli.specs.declared.command.Kind.TheVariants.{Knapsack}
+use Rattle.pq_cli.specs.declared.command.Kind.TheVariants.{Knapsack, Shop}
 use Rattle.pq_cli.specs.declared.command.Which.{Which}
 use Rattle.pq_cli.specs.declared.command.Which.TheVariants.{Plain}
 use Rattle.pq_cli.specs.declared.words.settings.Settings.{Settings}
@@ -22,7 +22,10 @@ once (Some old) new = None
 
 -- the problem of this name
 abbrev pub kind_of : List ℕ → Option Kind
-kind_of word = if bytes_eq word (codes "knapsack") then Some Knapsack else None
+kind_of word =
+    if bytes_eq word (codes "knapsack") then Some Knapsack
+    else if bytes_eq word (codes "shop") then Some Shop
+    else None
 
 -- the queue of this name
 abbrev pub which_of : List ℕ → Option Which

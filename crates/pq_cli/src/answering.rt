@@ -1,9 +1,11 @@
 ghost use Rattle.std.specs.Prelude.{◌≡◌, ◌≤◌, Some, [], length, IfOk, IfErr, IfSome};
 ghost use Rattle.pq_cli.specs.Commands.{HasLimits};
-ghost use Rattle.pq_cli.specs.Answers.{IsAnswer, IsAnswered, Explains, ExplainsInput, ExplainsText};
+ghost use Rattle.pq_cli.specs.Answers.{IsAnswer, IsAnswered};
+ghost use Rattle.pq_cli.specs.Causes.{Explains, ExplainsInput, ExplainsText};
 
 use crate::auditing::audited;
 use crate::bounding::root_bound_text;
+use crate::checking::checked;
 use crate::command::Command;
 use crate::refusal::Refusal;
 use crate::solving::solution;
@@ -22,7 +24,7 @@ pub struct Answer {
 }
 
 /// What the command answers to the input.
-#[tactic(auto, using(crate::proofs::Explained::input_is_explained))]
+#[tactic(auto, using(crate::proofs::Explained::input_is_explained, crate::proofs::Explained::text_is_explained))]
 pub fn respond<I: Source>(alloc: Global, command: Command, input: &mut I) -> Result<Answer, Refusal>
     requires { HasLimits command }
     ensures answer { IfOk result (λ a. IfSome (I.left input.old) (λ bytes. IsAnswer command bytes a.status a.text.items)) }
@@ -43,17 +45,19 @@ fn respond_to(alloc: Global, command: Command, bytes: &[u8]) -> Result<Answer, R
 {
     match command {
         Command::Solve {
+            kind,
             nodes,
             capacity,
             ..
         } => Ok(Answer {
             status: Status::Ok,
-            text: solution(alloc, bytes, nodes, capacity)?,
+            text: solution(alloc, kind, bytes, nodes, capacity)?,
         }),
-        Command::Bound { .. } => Ok(Answer {
+        Command::Bound { kind } => Ok(Answer {
             status: Status::Ok,
-            text: root_bound_text(alloc, bytes)?,
+            text: root_bound_text(alloc, kind, bytes)?,
         }),
+        Command::Check { kind } => checked(alloc, kind, bytes),
         Command::Audit => audited(alloc, bytes),
     }
 }

@@ -1,13 +1,15 @@
 ghost use Rattle.std.specs.Prelude.{◌≡◌, IfOk, IfErr, MatchOption};
 ghost use Rattle.pq_tape.specs.HistoryText.{IsWithinLimits};
 ghost use Rattle.pq_cli.specs.Texts.{legal_text, bad_text};
-ghost use Rattle.pq_cli.specs.Answers.{IsAnswer, IsTrue, IsBadAt, ExplainsText};
+ghost use Rattle.pq_cli.specs.Answers.{IsAnswer, IsTrue, IsBadAt};
+ghost use Rattle.pq_cli.specs.Causes.{ExplainsText};
 
 use crate::answering::Answer;
 use crate::command::Command;
+use crate::lines::labelled;
 use crate::refusal::Refusal;
 use crate::status::Status;
-use pq_io::{NoMemory, write_number};
+use pq_io::NoMemory;
 use pq_model::{Verdict, audit};
 use pq_tape::{History, read_history};
 use std::alloc::Global;
@@ -53,18 +55,12 @@ fn bad_place(alloc: Global, history: &History) -> Result<Option<u32>, NoMemory>
 fn legal_text(alloc: Global, left: u32) -> Result<Vec<u8>, NoMemory>
     ensures { IfOk result (λ text. text.items ≡ legal_text left) }
 {
-    let mut text = Vec::from_slice(alloc, b"legal\nleft ")?;
-    write_number(&mut text, u64::from(left))?;
-    text.push(b'\n')?;
-    Ok(text)
+    labelled(alloc, b"legal\nleft", &[left])
 }
 
 // The history is bad at this place.
 fn bad_text(alloc: Global, place: u32) -> Result<Vec<u8>, NoMemory>
     ensures { IfOk result (λ text. text.items ≡ bad_text place) }
 {
-    let mut text = Vec::from_slice(alloc, b"bad ")?;
-    write_number(&mut text, u64::from(place))?;
-    text.push(b'\n')?;
-    Ok(text)
+    labelled(alloc, b"bad", &[place])
 }

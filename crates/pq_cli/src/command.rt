@@ -2,6 +2,7 @@
 #[derive(Clone, Copy, Debug, PartialEq, Eq)]
 pub enum Kind {
     Knapsack,
+    Shop,
 }
 
 /// Which queue a command uses.
@@ -26,6 +27,10 @@ pub enum Command {
     },
     /// Reads an instance, and writes the bound of the root.
     Bound {
+        kind: Kind,
+    },
+    /// Reads an instance and a plan, and says whether the plan is feasible and its stated number true.
+    Check {
         kind: Kind,
     },
     /// Reads a history, and says whether a bounded priority multiset could have answered so.

@@ -4,7 +4,10 @@
 mod answering;
 mod auditing;
 mod bounding;
+mod checking;
 mod command;
+mod laws;
+mod lines;
 mod refusal;
 mod reporting;
 mod solving;
@@ -15,6 +18,7 @@ mod top;
 mod words;
 
 pub use command::{Command, Kind, Which};
+pub use laws::solutions_are_checked;
 pub use status::Status;
 pub use top::run_still;
-pub use words::read_words;
+pub use words::{WordsRefusal, read_words};

@@ -15,7 +15,7 @@ const LINE_ROOM: usize = 64;
 ///
 /// It takes no memory.
 pub fn report<E: Sink>(status: Status, faults: &mut E) -> Status
-    ensures told { IfSome (E.written faults.old) (λ before. IsReported status before result (E.written faults.new)) }
+    ensures told { IfSome (E.written faults.old) (λ before. IsReported status before result (E.written faults.new) (E.faults faults.old) (E.faults faults.new)) }
     ensures cause { (result ≡ status) ⊎ ((result ≡ Status.WriteFault) × Rose (E.faults faults.old) (E.faults faults.new)) }
     ensures silent { fault_text status ≡ [] → result ≡ status }
 {

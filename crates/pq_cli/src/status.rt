@@ -8,7 +8,7 @@ use pq_io::BadInput;
 pub enum Status {
     /// The input was read to its end, and the whole answer was written.
     Ok,
-    /// An audit: the history is bad, and the output says where.
+    /// An audit or a check: the output names the first place or clause that fails.
     Illegal,
     /// No command reads the words.
     BadWords,

@@ -3,14 +3,15 @@ ghost use Rattle.pq_io.specs.Gathering.{WritesFront};
 ghost use Rattle.pq_io.specs.Streams.{Rose};
 ghost use Rattle.pq_cli.specs.declared.command.Command.{Command};
 ghost use Rattle.pq_cli.specs.Commands.{command_of, texts};
-ghost use Rattle.pq_cli.specs.Answers.{IsAnswer, IsAnswered, HasReading, HasEnough, IfBadInput, IfNodeLimit, IfFull, IsRefused, IsLimited, IsFilled};
+ghost use Rattle.pq_cli.specs.Answers.{IsAnswer, IsAnswered};
+ghost use Rattle.pq_cli.specs.Causes.{HasReading, HasEnough, IfBadInput, IfNodeLimit, IfFull, IsRefused, IsPastLimit, IsLimited, IsPastCapacity, IsFilled};
 ghost use Rattle.pq_cli.specs.Texts.{fault_text};
 ghost use Rattle.pq_cli.specs.Reports.{IsCutShort, IsCutLine, IsReported, LeavesOutput};
 
 use crate::answering::respond;
 use crate::reporting::report;
 use crate::status::Status;
-use crate::words::read_words;
+use crate::words::{WordsRefusal, read_words};
 use pq_io::{Sink, Source, put_all};
 use std::alloc::Global;
 
@@ -34,13 +35,13 @@ pub fn run_still<I: Source, O: Sink, E: Sink>(
 
     // Each other status has its cause; that there is no memory needs none.
     ensures bad_words { result ≡ Status.BadWords → command_of (texts words.now) ≡ None }
-    ensures no_command { command_of (texts words.now) ≡ None → (result ≡ Status.BadWords) ⊎ (result ≡ Status.WriteFault) }
+    ensures no_command { command_of (texts words.now) ≡ None → (result ≡ Status.BadWords) ⊎ ((result ≡ Status.WriteFault) × Rose (E.faults faults.old) (E.faults faults.new)) }
     ensures bad_input { IfBadInput result (λ fault. (c : Command) → command_of (texts words.now) ≡ Some c → IfSome (I.left input.old) (λ bytes.
         IsRefused c bytes fault (I.left input.new))) }
-    ensures node_limit { IfNodeLimit result (λ asked limit. (c : Command) → command_of (texts words.now) ≡ Some c → IfSome (I.left input.old) (λ bytes.
-        IsLimited c bytes asked limit)) }
-    ensures full { IfFull result (λ place. (c : Command) → command_of (texts words.now) ≡ Some c → IfSome (I.left input.old) (λ bytes.
-        IsFilled c bytes place)) }
+    ensures node_limit { IfNodeLimit result (λ asked limit. (c : Command) → command_of (texts words.now) ≡ Some c →
+        IsPastLimit c asked limit × IfSome (I.left input.old) (λ bytes. IsLimited c bytes asked limit)) }
+    ensures full { IfFull result (λ place. (c : Command) → command_of (texts words.now) ≡ Some c →
+        IsPastCapacity c place × IfSome (I.left input.old) (λ bytes. IsFilled c bytes place)) }
     ensures read_fault { result ≡ Status.ReadFault → Rose (I.faults input.old) (I.faults input.new) }
     ensures write_fault { result ≡ Status.WriteFault → Rose (O.faults output.old) (O.faults output.new) ⊎ Rose (E.faults faults.old) (E.faults faults.new) }
 
@@ -55,8 +56,13 @@ pub fn run_still<I: Source, O: Sink, E: Sink>(
     ensures cut_short { result ≡ Status.WriteFault → (c : Command) → command_of (texts words.now) ≡ Some c → IfSome (I.left input.old) (λ bytes.
         IfSome (O.written output.old) (λ before. IsCutShort c bytes before (O.written output.new))) }
 
+    // Where no command reads the words, the input and the output are as they were.
+    ensures unread { command_of (texts words.now) ≡ None → I.left input.new ≡ I.left input.old }
+    ensures unwritten { command_of (texts words.now) ≡ None → O.written output.new ≡ O.written output.old }
+
     // The line of the status is written to the faults, or a front of a status's line where that failed.
     ensures told { result ≢ Status.WriteFault → IfSome (E.written faults.old) (λ before. E.written faults.new ≡ Some (before ++ fault_text result)) }
+    ensures told_whole { ¬ Rose (E.faults faults.old) (E.faults faults.new) → IfSome (E.written faults.old) (λ before. E.written faults.new ≡ Some (before ++ fault_text result)) }
     ensures told_front { result ≡ Status.WriteFault → IfSome (E.written faults.old) (λ before. IsCutLine before (E.written faults.new)) }
 {
     report(run_command(alloc, words, input, output), faults)
@@ -74,12 +80,14 @@ fn run_command<I: Source, O: Sink>(
     ensures taken { IsAnswered result → IfSome (I.left input.old) (λ bytes. I.left input.new ≡ Some []) }
     ensures bad_words { result ≡ Status.BadWords → command_of (texts words.now) ≡ None }
     ensures no_command { command_of (texts words.now) ≡ None → result ≡ Status.BadWords }
+    ensures unread { command_of (texts words.now) ≡ None → I.left input.new ≡ I.left input.old }
+    ensures unwritten { command_of (texts words.now) ≡ None → O.written output.new ≡ O.written output.old }
     ensures bad_input { IfBadInput result (λ fault. (c : Command) → command_of (texts words.now) ≡ Some c → IfSome (I.left input.old) (λ bytes.
         IsRefused c bytes fault (I.left input.new))) }
-    ensures node_limit { IfNodeLimit result (λ asked limit. (c : Command) → command_of (texts words.now) ≡ Some c → IfSome (I.left input.old) (λ bytes.
-        IsLimited c bytes asked limit)) }
-    ensures full { IfFull result (λ place. (c : Command) → command_of (texts words.now) ≡ Some c → IfSome (I.left input.old) (λ bytes.
-        IsFilled c bytes place)) }
+    ensures node_limit { IfNodeLimit result (λ asked limit. (c : Command) → command_of (texts words.now) ≡ Some c →
+        IsPastLimit c asked limit × IfSome (I.left input.old) (λ bytes. IsLimited c bytes asked limit)) }
+    ensures full { IfFull result (λ place. (c : Command) → command_of (texts words.now) ≡ Some c →
+        IsPastCapacity c place × IfSome (I.left input.old) (λ bytes. IsFilled c bytes place)) }
     ensures read_fault { result ≡ Status.ReadFault → Rose (I.faults input.old) (I.faults input.new) }
     ensures write_fault { result ≡ Status.WriteFault → Rose (O.faults output.old) (O.faults output.new) }
     ensures complete { (c : Command) → command_of (texts words.now) ≡ Some c → IfSome (I.left input.old) (λ bytes. HasReading c bytes → HasEnough c bytes →
@@ -88,8 +96,10 @@ fn run_command<I: Source, O: Sink>(
     ensures cut_short { result ≡ Status.WriteFault → (c : Command) → command_of (texts words.now) ≡ Some c → IfSome (I.left input.old) (λ bytes.
         IfSome (O.written output.old) (λ before. IsCutShort c bytes before (O.written output.new))) }
 {
-    let Some(command) = read_words(words) else {
-        return Status::BadWords;
+    let command = match read_words(alloc, words) {
+        Ok(command) => command,
+        Err(WordsRefusal::BadWords) => return Status::BadWords,
+        Err(WordsRefusal::NoMemory) => return Status::NoMemory,
     };
     match respond(alloc, command, input) {
         Ok(answer) => written(output, &answer.text, answer.status),

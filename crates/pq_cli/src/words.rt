@@ -2,4 +2,4 @@ mod options;
 mod reading;
 mod settings;
 
-pub use reading::read_words;
+pub use reading::{WordsRefusal, read_words};

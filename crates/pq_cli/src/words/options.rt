@@ -12,6 +12,8 @@ fn kind_of(word: &[u8]) -> Option<Kind>
 {
     if word == b"knapsack".as_slice() {
         Some(Kind::Knapsack)
+    } else if word == b"shop".as_slice() {
+        Some(Kind::Shop)
     } else {
         None
     }

@@ -1,17 +1,35 @@
-ghost use Rattle.std.specs.Prelude.{◌≡◌, ◌<◌, ◌≤◌, [], ◌∷◌, length, IfSome, MatchOption};
+ghost use Rattle.std.specs.Prelude.{◌≡◌, ◌<◌, ◌≤◌, [], ◌∷◌, length, IfOk, IfSome, MatchOption};
 ghost use Rattle.pq_cli.specs.Words.{settings_from, is_silent};
-ghost use Rattle.pq_cli.specs.Commands.{HasLimits, command_of, texts, within, solve_from, bound_from, audit_from};
+ghost use Rattle.pq_cli.specs.Commands.{HasLimits, answer_of, command_of, texts, within, solve_from, kind_alone, bound_from, check_from, audit_from};
 
-use crate::command::Command;
+use crate::command::{Command, Kind};
 use crate::words::options::{pair_name, with_lone, with_option};
 use crate::words::settings::Settings;
+use std::alloc::Global;
 
-/// The command that the words say, or `None` where no command reads them.
+/// Why the words are read as no command.
+#[derive(Clone, Copy, Debug, PartialEq, Eq)]
+pub enum WordsRefusal {
+    /// No command reads them.
+    BadWords,
+    /// There was no memory to read them. Today reading takes none.
+    NoMemory,
+}
+
+/// The command that the words say, or `BadWords` where no command reads them.
 ///
 /// The first word is the command. Behind it the problem and the options stand in any order, each at most once; an
-/// option is two words `--name value` or one word `--name=value`.
+/// option is two words `--name value` or one word `--name=value`. It takes no memory. Linear in the words.
+pub fn read_words(_alloc: Global, words: &[String]) -> Result<Command, WordsRefusal>
+    ensures exact { result ≡ answer_of (command_of (texts words.now)) }
+    ensures limits { IfOk result HasLimits }
+{
+    command_of(words).ok_or(WordsRefusal::BadWords)
+}
+
+// The command that the words say.
 #[tactic(auto, unfolding(crate::specs::Commands::command_of))]
-pub fn read_words(words: &[String]) -> Option<Command>
+fn command_of(words: &[String]) -> Option<Command>
     ensures exact { result ≡ command_of (texts words.now) }
     ensures limits { IfSome result HasLimits }
 {
@@ -20,6 +38,8 @@ pub fn read_words(words: &[String]) -> Option<Command>
         solve_from(settings_from(Settings::NONE, behind)?)
     } else if name == b"bound".as_slice() {
         bound_from(settings_from(Settings::NONE, behind)?)
+    } else if name == b"check".as_slice() {
+        check_from(settings_from(Settings::NONE, behind)?)
     } else if name == b"audit".as_slice() {
         audit_from(settings_from(Settings::NONE, behind)?)
     } else {
@@ -95,17 +115,31 @@ fn is_silent(said: &Settings) -> bool
         && said.capacity.is_none()
 }
 
+// A problem, and no option.
+#[tactic(auto, unfolding(crate::specs::Commands::kind_alone))]
+fn kind_alone(said: Settings) -> Option<Kind>
+    ensures { result ≡ kind_alone said }
+{
+    let kind = said.kind?;
+    if is_silent(&said) { Some(kind) } else { None }
+}
+
 #[tactic(auto, unfolding(crate::specs::Commands::bound_from))]
 fn bound_from(said: Settings) -> Option<Command>
     ensures exact { result ≡ bound_from said }
     ensures limits { IfSome result HasLimits }
 {
-    let kind = said.kind?;
-    if is_silent(&said) {
-        Some(Command::Bound { kind })
-    } else {
-        None
-    }
+    let kind = kind_alone(said)?;
+    Some(Command::Bound { kind })
+}
+
+#[tactic(auto, unfolding(crate::specs::Commands::check_from))]
+fn check_from(said: Settings) -> Option<Command>
+    ensures exact { result ≡ check_from said }
+    ensures limits { IfSome result HasLimits }
+{
+    let kind = kind_alone(said)?;
+    Some(Command::Check { kind })
 }
 
 #[tactic(auto, unfolding(crate::specs::Commands::audit_from))]

@@ -1,6 +1,6 @@
-use Rattle.std.proofs.Common.{inl, inr, subst}
+use Rattle.std.proofs.Common.{◌∙◌, inl, inr, subst}
 use Rattle.pq_cli.specs.Answers.{IsAnswered}
-use Rattle.pq_cli.proofs.Reported.{completed, cut_lines, cut_short}
+use Rattle.pq_cli.proofs.Reported.{completed, cut_lines, cut_short, whole_lines}
 use Rattle.pq_cli.proofs.top.run_still.Goals as goal
 
 pub returns-clause-answered : goal.returns-clause-answered
@@ -19,4 +19,13 @@ returns-clause-cut_short g c = λ failed command said. cut_short command c.run_c
     (λ same. c.run_command.ensures.cut_short same command said)
 
 pub returns-clause-told_front : goal.returns-clause-told_front
-returns-clause-told_front g c = λ failed. cut_lines _ c.run_command.result _ _ c.report.ensures.told
+returns-clause-told_front g c = λ failed. cut_lines _ c.run_command.result _ _ _ _ c.report.ensures.told
+
+pub returns-clause-told_whole : goal.returns-clause-told_whole
+returns-clause-told_whole g c = λ still. whole_lines _ c.run_command.result _ _ _ _ c.report.ensures.told still
+
+pub returns-clause-no_command : goal.returns-clause-no_command
+returns-clause-no_command g c = λ none. elim c.report.ensures.cause [
+  | inl same ↦ inl (same ∙ c.run_command.ensures.no_command none)
+  | inr failed ↦ inr failed
+]

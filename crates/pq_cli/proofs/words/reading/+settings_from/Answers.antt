@@ -1,4 +1,4 @@
-use Rattle.std.proofs.Common.{◌≡◌, sym, ◌∙◌}
+use Rattle.std.proofs.Common.{sym, ◌∙◌}
 use Rattle.pq_cli.proofs.WordSteps.{pair_words}
 use Rattle.pq_cli.proofs.words.reading.+settings_from.Goals as goal
 
