@@ -15,17 +15,24 @@ program() {
     [ $? -ne 70 ] || exit 70
 }
 
-# Milliseconds that a command takes on the input in the file $1; it has to end with status 0.
+# The status that each timed command has to end with.
+wanted=0
+
+# Microseconds that a command takes on the input in the file $1.
 run_once() {
-    local input=$1 began ended
+    local input=$1 began ended status
     shift
     began=$(date +%s%N)
-    "$@" <"$input" >"$build/said" || { echo "failed: $*" >&2; exit 1; }
+    "$@" <"$input" >"$build/said" 2>"$build/told"
+    status=$?
     ended=$(date +%s%N)
+    [ "$status" -eq "$wanted" ] || { cat "$build/told" >&2; echo "failed: $*" >&2; exit 1; }
     echo $(((ended - began) / 1000))
 }
 
-# The least of microseconds that each of two commands takes, run by turns: compare NAME INPUT ROUNDS ours.. -- yardstick..
+# The least time that each of two commands takes, run by turns: compare NAME INPUT ROUNDS ours.. -- yardstick..
+# Where the variable nodes says how many nodes each makes, also the nodes a second.
+nodes=
 compare() {
     local name=$1 input=$2 rounds=$3 ours=() theirs=() mine=0 other=0 took
     shift 3
@@ -38,6 +45,8 @@ compare() {
         took=$(run_once "$input" "${theirs[@]}") || exit 1
         [ "$other" -ne 0 ] && [ "$other" -le "$took" ] || other=$took
     done
-    awk -v n="$name" -v a="$mine" -v b="$other" \
-        'BEGIN { printf "%-28s pq %8.1f ms   plain Rust %8.1f ms   ratio %.2f\n", n, a / 1000, b / 1000, a / b }'
+    awk -v n="$name" -v a="$mine" -v b="$other" -v nodes="$nodes" 'BEGIN {
+        printf "%-28s pq %8.1f ms   plain Rust %8.1f ms   ratio %.2f\n", n, a / 1000, b / 1000, a / b
+        if (nodes != "") printf "%28s pq %8.2f       plain Rust %8.2f million nodes a second, ratio %.2f\n", "", nodes / a, nodes / b, b / a
+    }'
 }

@@ -1,0 +1,161 @@
+//! The yardstick of `pq solve shop`: the same dispatching, bound and best-first search in plain Rust, with std's
+//! `BinaryHeap` as the queue. A node is one box of numbers: the ready times of jobs and machines, each job's next
+//! step, and the dispatched jobs, four to a number. The word behind the name is the node limit; what goes to standard
+//! error is how many nodes were made.
+use std::cmp::Reverse;
+use std::collections::BinaryHeap;
+use std::io::{self, Read};
+use std::process::exit;
+
+#[derive(Clone, Copy)]
+struct Operation {
+    machine: usize,
+    time: u32,
+    tail: u32,
+}
+
+#[derive(Clone, Copy)]
+struct Load {
+    head: u32,
+    time: u32,
+    tail: u32,
+}
+
+const IDLE: Load = Load { head: u32::MAX, time: 0, tail: u32::MAX };
+
+struct Shop {
+    jobs: usize,
+    machines: usize,
+    operations: Vec<Operation>,
+}
+
+type Node = Box<[u32]>;
+
+impl Shop {
+    fn new(text: &str) -> Shop {
+        let mut numbers = text.split_ascii_whitespace().map(|word| word.parse::<u32>().expect("a number"));
+        let jobs = numbers.next().expect("a number of jobs") as usize;
+        let machines = numbers.next().expect("a number of machines") as usize;
+        let mut operations: Vec<Operation> = (0..jobs * machines)
+            .map(|_| Operation { machine: numbers.next().unwrap() as usize, time: numbers.next().unwrap(), tail: 0 })
+            .collect();
+        for job in operations.chunks_mut(machines) {
+            let mut tail = 0;
+            for operation in job.iter_mut().rev() {
+                operation.tail = tail;
+                tail += operation.time;
+            }
+        }
+        Shop { jobs, machines, operations }
+    }
+
+    fn root(&self) -> Node {
+        vec![0; 2 * self.jobs + self.machines + self.operations.len().div_ceil(4)].into_boxed_slice()
+    }
+
+    fn step(&self, node: &Node, job: usize) -> usize {
+        node[self.jobs + self.machines + job] as usize
+    }
+
+    fn dispatch(&self, node: &mut Node, job: usize, depth: usize) -> u32 {
+        let step = self.step(node, job);
+        let operation = self.operations[job * self.machines + step];
+        let start = node[job].max(node[self.jobs + operation.machine]);
+        node[job] = start + operation.time;
+        node[self.jobs + operation.machine] = start + operation.time;
+        node[self.jobs + self.machines + job] += 1;
+        node[2 * self.jobs + self.machines + depth / 4] |= (job as u32) << (8 * (depth % 4));
+        start
+    }
+
+    fn bound(&self, node: &Node, loads: &mut [Load]) -> u32 {
+        loads.fill(IDLE);
+        let (ready, rest) = node.split_at(self.jobs);
+        let (machines, steps) = rest.split_at(self.machines);
+        let mut most = machines.iter().copied().max().unwrap_or(0);
+        for (job, operations) in self.operations.chunks(self.machines).enumerate() {
+            let mut end = ready[job];
+            for operation in &operations[steps[job] as usize..] {
+                let head = end.max(machines[operation.machine]);
+                let load = &mut loads[operation.machine];
+                load.head = load.head.min(head);
+                load.time += operation.time;
+                load.tail = load.tail.min(operation.tail);
+                end = head + operation.time;
+            }
+            most = most.max(end);
+        }
+        for load in loads.iter().filter(|load| load.head != u32::MAX) {
+            most = most.max(load.head + load.time + load.tail);
+        }
+        most
+    }
+
+    fn depth(&self, node: &Node) -> usize {
+        (0..self.jobs).map(|job| self.step(node, job)).sum()
+    }
+
+    fn starts(&self, node: &Node) -> Vec<Vec<u32>> {
+        let mut again = self.root();
+        let mut rows = vec![Vec::new(); self.jobs];
+        for depth in 0..self.operations.len() {
+            let job = (node[2 * self.jobs + self.machines + depth / 4] >> (8 * (depth % 4))) as usize & 255;
+            let start = self.dispatch(&mut again, job, depth);
+            rows[job].push(start);
+        }
+        rows
+    }
+}
+
+fn main() -> io::Result<()> {
+    let limit: usize = std::env::args().nth(1).map_or(usize::MAX, |word| word.parse().expect("a node limit"));
+    let mut text = String::new();
+    io::stdin().lock().read_to_string(&mut text)?;
+    let shop = Shop::new(&text);
+    let mut loads = vec![IDLE; shop.machines];
+    let root = shop.root();
+    let mut queue = BinaryHeap::new();
+    queue.push(Reverse((shop.bound(&root, &mut loads), 0usize)));
+    let mut store = vec![Some(root)];
+    let mut kept: Vec<(u32, Node)> = Vec::new();
+    let mut best: Option<(u32, Node)> = None;
+    while let Some(Reverse((bound, number))) = queue.pop() {
+        let node = store[number].take().expect("each node is taken once");
+        let cost = best.as_ref().map_or(u32::MAX, |found| found.0);
+        if bound >= cost {
+            continue;
+        }
+        let depth = shop.depth(&node);
+        if depth == shop.operations.len() {
+            let makespan = node[..shop.jobs].iter().copied().max().unwrap_or(0);
+            best = Some((makespan, node));
+            continue;
+        }
+        for job in 0..shop.jobs {
+            if shop.step(&node, job) == shop.machines {
+                continue;
+            }
+            let mut child = node.clone();
+            shop.dispatch(&mut child, job, depth);
+            let bound = shop.bound(&child, &mut loads);
+            if bound < cost {
+                kept.push((bound, child));
+            }
+        }
+        if store.len() + kept.len() > limit {
+            eprintln!("{} nodes", store.len());
+            exit(4);
+        }
+        for (bound, child) in kept.drain(..) {
+            queue.push(Reverse((bound, store.len())));
+            store.push(Some(child));
+        }
+    }
+    let (makespan, node) = best.expect("there is a schedule");
+    println!("makespan {makespan}");
+    for row in shop.starts(&node) {
+        println!("{}", row.iter().map(u32::to_string).collect::<Vec<_>>().join(" "));
+    }
+    eprintln!("{} nodes", store.len());
+    Ok(())
+}
