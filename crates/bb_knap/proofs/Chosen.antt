@@ -103,6 +103,7 @@ is_plan i ds choice moved sorted =
           (λ k. omega (arith, total-plan-le i ds choice moved (one_at k), sum_below-once k n))
           (λ k le. omega (arith, total-plan-le i ds choice moved (one_at k), sum_below-past k n le))
           (λ j lt. omega arith);
+      same = moved;
       weight = weight_of-total i.items choice ∙ total-plan i ds choice moved (λ k. (item_at i.items k).weight) ∙ sym (weight_of-total i.items (taken_of i ds));
       value = value_of-total i.items choice ∙ total-plan i ds choice moved (λ k. (item_at i.items k).value) ∙ sym (value_of-total i.items (taken_of i ds));
     }

@@ -1,5 +1,6 @@
 -- The tree of decisions on a knapsack's items, and Dantzig's bound.
 use Rattle.std.specs.Prelude.{ℕ, zero, suc, ◌≡◌, ◌+◌, ◌-◌, ◌*◌, ◌/◌, ◌≤◌, ◌^◌, nat_le, if◌then◌else◌, List, [], ◌∷◌, ◌++◌, length, drop, min, max}
+use Rattle.std.specs.List.Sorted.{IsPermutation}
 use Rattle.inst_text.specs.declared.knapsack.Item.{Item}
 use Rattle.inst_text.specs.Knapsack.{Instance, total_value}
 use Rattle.bb_problem.specs.Tree.{Tree}
@@ -75,9 +76,10 @@ pub record Stands (i : Instance) (node : Node) (name : List ℕ) : Type 0 where
   pub room : node.room + weight_of i.items (taken_of i name) ≡ i.capacity
   pub value : node.value ≡ value_of i.items (taken_of i name)
 
--- A choice of just the items that these decisions take: it weighs and is worth what they do.
+-- A choice of just the items that these decisions take, which weighs and is worth what they do.
 pub record IsPlanOf (i : Instance) (decisions choice : List ℕ) : Type 0 where
   pub chosen : IsChoiceOf i choice
+  pub same : IsPermutation (taken_of i decisions) choice
   pub weight : weight_of i.items choice ≡ weight_of i.items (taken_of i decisions)
   pub value : value_of i.items choice ≡ value_of i.items (taken_of i decisions)
 

@@ -1,7 +1,9 @@
+ghost use Rattle.std.specs.Prelude.{ℕ, List, IfOk};
 ghost use Rattle.inst_text.specs.Knapsack.{IsInstance};
+ghost use Rattle.bb_problem.specs.Expanding.{IsExpanded, IsInRange, IfLeaf};
 ghost use Rattle.bb_knap.specs.Plans.{IsFeasible, cost_of};
 ghost use Rattle.bb_knap.specs.Laws.TreeLaws.{reached, bounded, passed_on, told_apart, ends, attained, least_of_all, counted};
-ghost use Rattle.bb_knap.specs.Branching.{Stands, Reaches, tree_of, tree_size, least_cost};
+ghost use Rattle.bb_knap.specs.Branching.{Stands, Reaches, IsPlanOf, children_of, tree_of, tree_size, least_cost};
 
 use crate::knapsack::Knapsack;
 use crate::node::KnapNode;
@@ -50,7 +52,13 @@ impl Problem for Knapsack {
 
     /// The plan of a node that decides on all items, else the child that takes the next item, where it fits, and
     /// the child that leaves it. A child takes time to copy its decisions, a plan O(n log n).
-    fn expand(&self, alloc: Global, node: KnapNode) -> Result<Step<Choice, KnapNode>, NoMemory> {
+    fn expand(&self, alloc: Global, node: KnapNode) -> Result<Step<Choice, KnapNode>, NoMemory>
+        ensures range { IfOk result (IsInRange (cost_of self.now)) }
+        ensures expanded { IfOk result (λ step. (name : List ℕ) → Stands self.now node name →
+            IsExpanded (IsFeasible self.now) (cost_of self.now) (Stands self.now) (Reaches self.now name) name (children_of self.now name) step) }
+        // A leaf has just the items that its decisions take.
+        ensures leaf { IfOk result (λ step. (name : List ℕ) → Stands self.now node name → IfLeaf (IsPlanOf self.now name) step) }
+    {
         let items = self.items();
         let order = self.order();
         let depth = node.decisions().len();

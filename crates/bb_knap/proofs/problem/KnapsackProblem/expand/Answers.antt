@@ -1,4 +1,4 @@
-use Rattle.std.proofs.Common.{◌≡◌, ◌+◌, ◌-◌, ◌<◌, ◌≤◌, [], ◌∷◌, ◌++◌, length, get_or, ap, ◌∙◌, arith}
+use Rattle.std.proofs.Common.{subst, ◌≡◌, ◌+◌, ◌-◌, ◌<◌, ◌≤◌, [], ◌∷◌, ◌++◌, length, get_or, ap, ◌∙◌, arith}
 use Rattle.std.specs.Prelude.{min}
 use Rattle.bb_knap.specs.Plans.{item_at}
 use Rattle.bb_knap.specs.Order.{order_of}
@@ -66,3 +66,9 @@ returns-clause-expanded c = λ name s.
           (pushed ∙ ap (λ xs. xs ++ c.in_ok-leaving.field-0 ∷ []) (ap (λ v. v.items) w.children-is ∙ c.new-children.ensures.items))
           c.in_ok-leaving.ensures
     ]
+
+pub returns-then-order-depth-clause-leaf : goal.returns-then-order-depth-clause-leaf
+returns-then-order-depth-clause-leaf c = λ name s.
+    let i = c.args.self.now in
+    let plan : IsPlanOf i c.args.node.decisions c.in_ok-plan.field-0 = rw c.decisions-then-order-depth.ensures at c.in_ok-plan.ensures in
+    subst (λ d. IsPlanOf i d c.in_ok-plan.field-0) s.decisions plan
