@@ -48,14 +48,21 @@ abbrev pub IsPastCapacity : Command → ℕ → Type 0
 IsPastCapacity (Solve kind queue workers nodes capacity) place = (capacity < nodes) × (capacity ≤ place)
 IsPastCapacity _ place = ⊥
 
--- the bytes read as an instance, a search of which asked for more nodes than the command allows
-abbrev pub IsLimited : Command → List ℕ → ℕ → ℕ → Type 0
-IsLimited (Solve kind queue workers nodes capacity) bytes asked limit = (instance_fault kind bytes ≡ None) × IsOverLimit (needed_by kind bytes) nodes asked limit
-IsLimited _ bytes asked limit = ⊥
+-- the bytes read as an instance, a search of which asked for more nodes than the limit
+abbrev pub IsSolveLimited : Kind → List ℕ → ℕ → ℕ → ℕ → Type 0
+IsSolveLimited kind bytes nodes asked limit = (instance_fault kind bytes ≡ None) × IsOverLimit (needed_by kind bytes) nodes asked limit
 
 -- the bytes read as an instance, a search of which found the queue full at this place
+abbrev pub IsSolveFilled : Kind → List ℕ → ℕ → ℕ → ℕ → Type 0
+IsSolveFilled kind bytes nodes capacity place = (instance_fault kind bytes ≡ None) × IsFullAt (needed_by kind bytes) nodes capacity place
+
+-- the command is a solve, and its search was stopped so
+abbrev pub IsLimited : Command → List ℕ → ℕ → ℕ → Type 0
+IsLimited (Solve kind queue workers nodes capacity) bytes asked limit = IsSolveLimited kind bytes nodes asked limit
+IsLimited _ bytes asked limit = ⊥
+
 abbrev pub IsFilled : Command → List ℕ → ℕ → Type 0
-IsFilled (Solve kind queue workers nodes capacity) bytes place = (instance_fault kind bytes ≡ None) × IsFullAt (needed_by kind bytes) nodes capacity place
+IsFilled (Solve kind queue workers nodes capacity) bytes place = IsSolveFilled kind bytes nodes capacity place
 IsFilled _ bytes place = ⊥
 
 -- The input was taken to its end, or to one byte more than an input may have.
@@ -126,7 +133,7 @@ ExplainsSearch needs nodes capacity refusals.NoMemory = Unit {0}
 -- the same of a solve: of its reading, or of its search
 abbrev pub ExplainsSolve : Kind → List ℕ → ℕ → ℕ → Refusal → Type 0
 ExplainsSolve kind bytes nodes capacity (refusals.BadInput fault) = instance_fault kind bytes ≡ Some fault
-ExplainsSolve kind bytes nodes capacity (refusals.NodeLimit asked limit) = (instance_fault kind bytes ≡ None) × IsOverLimit (needed_by kind bytes) nodes asked limit
-ExplainsSolve kind bytes nodes capacity (refusals.Full place) = (instance_fault kind bytes ≡ None) × IsFullAt (needed_by kind bytes) nodes capacity place
+ExplainsSolve kind bytes nodes capacity (refusals.NodeLimit asked limit) = IsSolveLimited kind bytes nodes asked limit
+ExplainsSolve kind bytes nodes capacity (refusals.Full place) = IsSolveFilled kind bytes nodes capacity place
 ExplainsSolve kind bytes nodes capacity refusals.ReadFault = ⊥
 ExplainsSolve kind bytes nodes capacity refusals.NoMemory = Unit {0}

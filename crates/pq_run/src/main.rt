@@ -1,6 +1,10 @@
 //! The program: runs a command on the standard streams, and ends with its status.
 #![tactic(auto)]
 
+ghost use Rattle.std.specs.Prelude.{◌≡◌};
+ghost use Rattle.std.specs.Process.{exit_status};
+ghost use Rattle.pq_cli.specs.Statuses.{code_of};
+
 use pq_cli::{Status, run_still};
 use pq_io::{StdSink, StdSource};
 use std::alloc::AllocError;
@@ -19,6 +23,13 @@ fn main(rt: HostRuntime) -> ExitCode {
         ),
         Err(AllocError) => Status::NoMemory,
     };
+    exit_code(status)
+}
+
+// What the program ends with.
+fn exit_code(status: Status) -> ExitCode
+    ensures { exit_status result ≡ code_of status }
+{
     ExitCode::from(status.code())
 }
 

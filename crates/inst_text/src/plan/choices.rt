@@ -92,9 +92,8 @@ fn next_choice(
 /// `read_knapsack` reads them, a line `value V`, and a line `items` with the item numbers behind the word.
 ///
 /// V is 0 to 4,294,967,295. An item number is below the number of items and above the one before it; else it is
-/// out of range. A text
-/// that is no such plan is refused with its first fault: the number of the line, and the cause. Linear in the
-/// text, which is not copied.
+/// out of range. A text that is no such plan is refused with its first fault: the number of the line, and the
+/// cause. Linear in the text, which is not copied.
 pub fn read_plan_knapsack(
     alloc: Global,
     bytes: &[u8],

@@ -96,8 +96,8 @@ fn next_starts(
 /// reads them, a line `makespan C`, and a line for each job with a start time for each step.
 ///
 /// C is 0 to 4,294,967,295, and a start time is 0 to 67,108,863; else it is out of range. A text that is no such
-/// plan is refused with its first fault: the number of the line, and the cause. Linear in the text, which is not copied; each row
-/// is reserved once.
+/// plan is refused with its first fault: the number of the line, and the cause. Linear in the text, which is not
+/// copied; each row is reserved once.
 pub fn read_plan_shop(alloc: Global, bytes: &[u8]) -> Result<(Jobs, Claimed<Starts>), ReadRefusal>
     // Which shop and which start times, and which fault it is.
     ensures exact { Gives (λ r. r) result (shop_plan_of bytes.now) }

@@ -151,9 +151,9 @@ pub(crate) fn next_shop(alloc: Global, text: &mut TextReader<'_>) -> Result<Jobs
 /// The job shop that the text spells: a line `n m`, and then n lines of m pairs `machine time`.
 ///
 /// n and m are 1 to 100, and n * m is at most 1,024; where it is above, m is out of range. A machine is 0 to
-/// m - 1, a time is 0 to 67,108,863, and so is the sum of all times; the time that passes it is out of range. A text that is no such shop is refused
-/// with its first fault: the number of the line, and the cause. Linear in the text, which is not copied; each
-/// row is reserved once.
+/// m - 1, a time is 0 to 67,108,863, and so is the sum of all times; the time that passes it is out of range. A
+/// text that is no such shop is refused with its first fault: the number of the line, and the cause. Linear in
+/// the text, which is not copied; each row is reserved once.
 pub fn read_shop(alloc: Global, bytes: &[u8]) -> Result<Jobs, ReadRefusal>
     // Which shop, and which fault it is.
     ensures exact { Gives (λ s. s) result (shop_of bytes.now) }
