@@ -19,15 +19,15 @@ with_number r others = r >>= λ n. others n >>= λ ns. Ok (n ∷ ns)
 
 -- one more number
 
-front_grows : (front : List ℕ) (k : ℕ) (r : Result (List ℕ) Cause) → behind front (r >>= λ ns. Ok (k ∷ ns)) ≡ behind (front ++ k ∷ []) r
-front_grows front k (Ok ns) = ap (λ (t : List ℕ). Ok t) (sym (append_assoc front (k ∷ []) ns))
-front_grows front k (Err c) = refl
+prefix_grows : (front : List ℕ) (k : ℕ) (r : Result (List ℕ) Cause) → behind front (r >>= λ ns. Ok (k ∷ ns)) ≡ behind (front ++ k ∷ []) r
+prefix_grows front k (Ok ns) = ap (λ (t : List ℕ). Ok t) (sym (append_assoc front (k ∷ []) ns))
+prefix_grows front k (Err c) = refl
 
 number_next : (line : ℕ) (r : Result ℕ Cause) (others : ℕ → Result (List ℕ) Cause) (ws : List (List ℕ)) (k : ℕ) (after : List (List ℕ)) (front : List ℕ) → on_line line (read_number r ws) ≡ Ok (record { value = k; rest = after })
     → (behind front (with_number r others) ≡ behind (front ++ k ∷ []) (others k)) × (ws ≡ after)
 number_next line (Ok n) others ws k after front e =
     let same = ok_is (record { value = n; rest = ws }) (record { value = k; rest = after }) e in
-    (front_grows front n (others n) ∙ ap (λ (x : Read ℕ (List (List ℕ))). behind (front ++ x.value ∷ []) (others x.value)) same, ap (λ (x : Read ℕ (List (List ℕ))). x.rest) same)
+    (prefix_grows front n (others n) ∙ ap (λ (x : Read ℕ (List (List ℕ))). behind (front ++ x.value ∷ []) (others x.value)) same, ap (λ (x : Read ℕ (List (List ℕ))). x.rest) same)
 number_next line (Err c) others ws k after front e = absurd cc
 
 pub record NumberNext (n low : ℕ) (ws : List (List ℕ)) (k : ℕ) (after : List (List ℕ)) (front : List ℕ) : Type 0 where

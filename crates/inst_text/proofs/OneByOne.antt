@@ -7,7 +7,7 @@ use Rattle.pq_io.specs.declared.text.fault.ReadRefusal.{ReadRefusal}
 use Rattle.pq_io.specs.declared.text.fault.ReadRefusal.TheVariants as refusals
 use Rattle.pq_io.specs.Lines.{Line, Text}
 use Rattle.pq_io.specs.Reading.{◌>>=◌, Read, Refuses, at_line_end, on_line, line_at}
-use Rattle.pq_io.proofs.Binds.{ok_is, bind_ok, with_front, front_grows}
+use Rattle.pq_io.proofs.Binds.{ok_is, bind_ok, with_prefix, prefix_grows}
 use Rattle.pq_io.proofs.Taken.{line_taken, line_found}
 use Rattle.inst_text.specs.Several.{several, told}
 
@@ -16,26 +16,26 @@ use Rattle.inst_text.specs.Several.{several, told}
 -- one more value
 pub goes_on : {S A Rest E : Type 0} (read : S → Rest → Result (Read A Rest) E) (next : S → A → S) (front : List A) (count i : ℕ) (s : S) (rest : Rest) (x : A) (after : Rest) (total : Result (Read (List A) Rest) E) → i < count
     → read s rest ≡ Ok (record { value = x; rest = after })
-    → with_front front (several read next (count - i) s rest) ≡ total → with_front (front ++ x ∷ []) (several read next (count - (i + 1)) (next s x) after) ≡ total
+    → with_prefix front (several read next (count - i) s rest) ≡ total → with_prefix (front ++ x ∷ []) (several read next (count - (i + 1)) (next s x) after) ≡ total
 unfolding several
 goes_on read next front count i s rest x after total lt h so_far =
     let k : count - i ≡ suc (count - (i + 1)) = omega arith in
-    let one : with_front front (several read next (count - i) s rest) ≡ with_front (front ++ x ∷ []) (several read next (count - (i + 1)) (next s x) after) =
-    rw (k, h) (front_grows front x (several read next (count - (i + 1)) (next s x) after)) in
+    let one : with_prefix front (several read next (count - i) s rest) ≡ with_prefix (front ++ x ∷ []) (several read next (count - (i + 1)) (next s x) after) =
+    rw (k, h) (prefix_grows front x (several read next (count - (i + 1)) (next s x) after)) in
     sym one ∙ so_far
 
 -- a faulty one
 pub ends : {S A Rest E : Type 0} (read : S → Rest → Result (Read A Rest) E) (next : S → A → S) (front : List A) (count i : ℕ) (s : S) (rest : Rest) (fault : E) (total : Result (Read (List A) Rest) E) → i < count
-    → read s rest ≡ Err fault → with_front front (several read next (count - i) s rest) ≡ total → total ≡ Err fault
+    → read s rest ≡ Err fault → with_prefix front (several read next (count - i) s rest) ≡ total → total ≡ Err fault
 unfolding several
 ends read next front count i s rest fault total lt h so_far =
     let k : count - i ≡ suc (count - (i + 1)) = omega arith in
-    let one : with_front front (several read next (count - i) s rest) ≡ Err fault = rw (k, h) refl in
+    let one : with_prefix front (several read next (count - i) s rest) ≡ Err fault = rw (k, h) refl in
     sym so_far ∙ one
 
 -- The same where a call refused to read it, maybe for want of memory.
 pub refused : {S A Rest : Type 0} (read : S → Rest → Result (Read A Rest) BadInput) (next : S → A → S) (front : List A) (count i : ℕ) (s : S) (rest : Rest) (refusal : ReadRefusal) (total : Result (Read (List A) Rest) BadInput) → i < count
-    → Refuses refusal (read s rest) → with_front front (several read next (count - i) s rest) ≡ total → Refuses refusal total
+    → Refuses refusal (read s rest) → with_prefix front (several read next (count - i) s rest) ≡ total → Refuses refusal total
 refused read next front count i s rest (refusals.BadInput fault) total lt h so_far = ends read next front count i s rest fault total lt h so_far
 refused read next front count i s rest refusals.NoMemory total lt h so_far = tt
 
@@ -46,11 +46,11 @@ refused_then refusals.NoMemory r f h = tt
 
 -- the last one
 pub is_done : {S A Rest E : Type 0} (read : S → Rest → Result (Read A Rest) E) (next : S → A → S) (front : List A) (count i : ℕ) (s : S) (rest : Rest) (total : Result (Read (List A) Rest) E) → count ≤ i
-    → with_front front (several read next (count - i) s rest) ≡ total → total ≡ Ok (record { value = front; rest = rest })
+    → with_prefix front (several read next (count - i) s rest) ≡ total → total ≡ Ok (record { value = front; rest = rest })
 unfolding several
 is_done {A = A} read next front count i s rest total le so_far =
     let k : count - i ≡ 0 = omega arith in
-    let one : with_front front (several read next (count - i) s rest) ≡ Ok (record { value = front; rest = rest }) =
+    let one : with_prefix front (several read next (count - i) s rest) ≡ Ok (record { value = front; rest = rest }) =
     rw k (ap (λ (xs : List A). Ok (record { value = xs; rest = rest })) (append-nil front)) in
     sym so_far ∙ one
 

@@ -11,7 +11,7 @@ use Rattle.pq_cli.specs.Reports.{IsReported, IsCutLine, IsCutShort, LeavesOutput
 
 pub cut_line : (status : Status) (before : List ℕ) (ended : Status) (now : Option (List ℕ)) (failed failing : ℕ) → IsReported status before ended now failed failing → IsCutLine before now
 cut_line status before ended now failed failing (inl h) = (status, length (fault_text status), h.1 ∙ ap (λ xs. Some (before ++ xs)) (sym (take-length (fault_text status))))
-cut_line status before ended now failed failing (inr h) = (status, h.2.count, h.2.front)
+cut_line status before ended now failed failing (inr h) = (status, h.2.count, h.2.prefix)
 
 -- where no fault was counted, the whole line of the status was written
 whole_line : (status : Status) (before : List ℕ) (ended : Status) (now : Option (List ℕ)) (failed failing : ℕ) → IsReported status before ended now failed failing → ¬ Rose failed failing → now ≡ Some (before ++ fault_text ended)

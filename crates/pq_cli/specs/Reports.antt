@@ -1,6 +1,6 @@
 -- What stands in the output and in the faults where there is no answer.
 use Rattle.std.specs.Prelude.{ℕ, ◌≡◌, ◌⊎◌, ◌++◌, List, take, Option, Some}
-use Rattle.pq_io.specs.Gathering.{WritesFront}
+use Rattle.pq_io.specs.Gathering.{WritesPrefix}
 use Rattle.pq_io.specs.Streams.{Rose}
 use Rattle.pq_cli.specs.declared.command.Command.{Command}
 use Rattle.pq_cli.specs.declared.status.Status.{Status}
@@ -12,7 +12,7 @@ use Rattle.pq_cli.specs.Texts.{fault_text}
 -- line was, and writing failed: the count of faults rose.
 abbrev pub IsReported : Status → List ℕ → Status → Option (List ℕ) → ℕ → ℕ → Type 0
 IsReported status before ended now failed failing = ((ended ≡ status) × (now ≡ Some (before ++ fault_text status)))
-    ⊎ ((ended ≡ statuses.WriteFault) × Rose failed failing × WritesFront before (fault_text status) now)
+    ⊎ ((ended ≡ statuses.WriteFault) × Rose failed failing × WritesPrefix before (fault_text status) now)
 
 -- a front of some status's line was written after what stood there before
 abbrev pub IsCutLine : List ℕ → Option (List ℕ) → Type 0

@@ -1,5 +1,5 @@
 ghost use Rattle.std.specs.Prelude.{ℕ, ◌≡◌, ◌≢◌, ◌⊎◌, ◌++◌, List, [], Some, None, IfSome};
-ghost use Rattle.pq_io.specs.Gathering.{WritesFront};
+ghost use Rattle.pq_io.specs.Gathering.{WritesPrefix};
 ghost use Rattle.pq_io.specs.Streams.{Rose};
 ghost use Rattle.pq_cli.specs.declared.command.Command.{Command};
 ghost use Rattle.pq_cli.specs.Commands.{command_of, texts};
@@ -111,7 +111,7 @@ fn run_command<I: Source, O: Sink>(
 fn written<O: Sink>(output: &mut O, text: &[u8], status: Status) -> Status
     requires { IsAnswered status }
     ensures whole { IsAnswered result → IfSome (O.written output.old) (λ before. O.written output.new ≡ Some (before ++ text.now)) }
-    ensures front { result ≡ Status.WriteFault → IfSome (O.written output.old) (λ before. WritesFront before text.now (O.written output.new)) }
+    ensures front { result ≡ Status.WriteFault → IfSome (O.written output.old) (λ before. WritesPrefix before text.now (O.written output.new)) }
     ensures cause { (result ≡ status) ⊎ ((result ≡ Status.WriteFault) × Rose (O.faults output.old) (O.faults output.new)) }
 {
     match put_all(output, text) {

@@ -5,7 +5,7 @@ use Rattle.pq_io.specs.declared.text.fault.Cause.TheVariants.{Missing}
 use Rattle.pq_io.specs.declared.text.fault.BadInput.{BadInput}
 use Rattle.pq_io.specs.Lines.{Line, Text}
 use Rattle.pq_io.specs.Reading.{◌>>=◌, Read, on_line, next_line, line_at, at_text_end}
-use Rattle.pq_io.proofs.Binds.{with_front, front_grows}
+use Rattle.pq_io.proofs.Binds.{with_prefix, prefix_grows}
 use Rattle.pq_io.proofs.Taken.{line_taken}
 use Rattle.pq_model.specs.declared.marks.Mark.{Mark}
 use Rattle.pq_tape.specs.declared.history.lines.HistoryLine.{HistoryLine}
@@ -62,7 +62,7 @@ line_fault place seats (l ∷ ls) end fault e =
 
 -- the marks so far in front of those that are still read
 abbrev pub SoFar : List Mark → ℕ → Text → MarksRead → Type 0
-SoFar front seats text total = with_front front (marks_in (length front) seats text.lines text.end) ≡ total
+SoFar front seats text total = with_prefix front (marks_in (length front) seats text.lines text.end) ≡ total
 
 pub goes_on : (front : List Mark) (seats place : ℕ) (text after : Text) (m : Mark) (total : MarksRead) → place ≡ length front
     → line_at (line_of place seats) text ≡ Ok (record { value = Marked m; rest = after }) → SoFar front seats text total → SoFar (front ++ m ∷ []) seats after total
@@ -70,9 +70,9 @@ goes_on front seats place text after m total at e so_far =
     let e' : line_at (line_of (length front) seats) text ≡ Ok (record { value = Marked m; rest = after }) = rw (← at) e in
     let n : length (front ++ m ∷ []) ≡ length front + 1 = omega (arith, length-append front (m ∷ [])) in
     let further : MarksRead = marks_in (length front + 1) seats after.lines after.end in
-    let same : with_front front (marks_in (length front) seats text.lines text.end) ≡ with_front (front ++ m ∷ []) further =
-    ap (λ (r : MarksRead). with_front front r) (line_read (length front) seats text after (Marked m) e') ∙ front_grows front m further in
-    ap (λ k. with_front (front ++ m ∷ []) (marks_in k seats after.lines after.end)) n ∙ sym same ∙ so_far
+    let same : with_prefix front (marks_in (length front) seats text.lines text.end) ≡ with_prefix (front ++ m ∷ []) further =
+    ap (λ (r : MarksRead). with_prefix front r) (line_read (length front) seats text after (Marked m) e') ∙ prefix_grows front m further in
+    ap (λ k. with_prefix (front ++ m ∷ []) (marks_in k seats after.lines after.end)) n ∙ sym same ∙ so_far
 
 -- the last line is read, and no line is left
 pub is_done : (front : List Mark) (seats place : ℕ) (text after : Text) (left : ℕ) (total : MarksRead) → place ≡ length front
@@ -80,7 +80,7 @@ pub is_done : (front : List Mark) (seats place : ℕ) (text after : Text) (left 
 is_done front seats place text after left total at e end so_far =
     let e' : line_at (line_of (length front) seats) text ≡ Ok (record { value = Ends left; rest = after }) = rw (← at) e in
     let last : marks_in (length front) seats text.lines text.end ≡ Ok (record { value = []; rest = left }) = line_read (length front) seats text after (Ends left) e' ∙ rw end refl in
-    sym so_far ∙ ap (λ (r : MarksRead). with_front front r) last ∙ ap (λ (ms : List Mark). Ok (record { value = ms; rest = left })) (append-nil front)
+    sym so_far ∙ ap (λ (r : MarksRead). with_prefix front r) last ∙ ap (λ (ms : List Mark). Ok (record { value = ms; rest = left })) (append-nil front)
 
 -- the last line is read, and a line is left
 pub is_extra : (front : List Mark) (seats place : ℕ) (text after : Text) (left : ℕ) (fault : BadInput) (total : MarksRead) → place ≡ length front
@@ -88,10 +88,10 @@ pub is_extra : (front : List Mark) (seats place : ℕ) (text after : Text) (left
 is_extra front seats place text after left fault total at e end so_far =
     let e' : line_at (line_of (length front) seats) text ≡ Ok (record { value = Ends left; rest = after }) = rw (← at) e in
     let last : marks_in (length front) seats text.lines text.end ≡ Err fault = line_read (length front) seats text after (Ends left) e' ∙ rw end refl in
-    sym so_far ∙ ap (λ (r : MarksRead). with_front front r) last
+    sym so_far ∙ ap (λ (r : MarksRead). with_prefix front r) last
 
 pub is_faulty : (front : List Mark) (seats place : ℕ) (text : Text) (fault : BadInput) (total : MarksRead) → place ≡ length front
     → line_at (line_of place seats) text ≡ Err fault → SoFar front seats text total → total ≡ Err fault
 is_faulty front seats place text fault total at e so_far =
     let e' : line_at (line_of (length front) seats) text ≡ Err fault = rw (← at) e in
-    sym so_far ∙ ap (λ (r : MarksRead). with_front front r) (line_fault (length front) seats text.lines text.end fault e')
+    sym so_far ∙ ap (λ (r : MarksRead). with_prefix front r) (line_fault (length front) seats text.lines text.end fault e')

@@ -3,7 +3,7 @@ use Rattle.std.proofs.Common.{◌≡◌, ℕ, suc, ◌+◌, ◌<◌, ◌≤◌, 
 use Rattle.std.specs.Prelude.{IfSome, OnOk, OnErr, Result, Ok, Err}
 use Rattle.std.proofs.Math.Seq.{take-append-add}
 use Rattle.std.proofs.lemmas.List.{append-nil, take-append-le, drop_all}
-use Rattle.pq_io.specs.Gathering.{WritesFront}
+use Rattle.pq_io.specs.Gathering.{WritesPrefix}
 use Rattle.pq_io.specs.Writing.{words_text, lines_text}
 use Rattle.pq_model.specs.declared.marks.Mark.{Mark}
 use Rattle.pq_tape.specs.HistoryText.{mark_words, marks_lines}
@@ -36,16 +36,16 @@ ends (Some b) mid last held whole p q =
     now ∙ ap (λ (t : List ℕ). Some t) (rw (append_assoc, parts) refl)
 
 -- a write of what was held back failed: a front of the whole is written
-pub fails : (first mid last : Option (List ℕ)) (held rest whole : List ℕ) → IfSome first (λ before. Pending held rest whole mid before) → IfSome mid (λ written. WritesFront written held last) → IfSome first (λ before. WritesFront before whole last)
+pub fails : (first mid last : Option (List ℕ)) (held rest whole : List ℕ) → IfSome first (λ before. Pending held rest whole mid before) → IfSome mid (λ written. WritesPrefix written held last) → IfSome first (λ before. WritesPrefix before whole last)
 fails None mid last held rest whole p q = tt
 fails (Some b) mid last held rest whole p q =
-    let w : WritesFront (b ++ p.done) held last = (rw p.written at q) in
+    let w : WritesPrefix (b ++ p.done) held last = (rw p.written at q) in
     let le : w.count ≤ length held = omega (arith, w.short) in
     let cut : take (length p.done + w.count) (p.done ++ (held ++ rest)) ≡ p.done ++ take w.count held = take_behind p.done held rest w.count le in
     record {
       count = length p.done + w.count;
       short = (let e = ap (λ (t : List ℕ). length t) p.parts in omega (arith, e, w.short, length-append p.done (held ++ rest), length-append held rest));
-      front = w.front ∙ ap (λ (t : List ℕ). Some t) (append_assoc b p.done (take w.count held) ∙ ap (λ (t : List ℕ). b ++ t) (sym cut ∙ ap (λ (t : List ℕ). take (length p.done + w.count) t) p.parts));
+      prefix = w.prefix ∙ ap (λ (t : List ℕ). Some t) (append_assoc b p.done (take w.count held) ∙ ap (λ (t : List ℕ). b ++ t) (sym cut ∙ ap (λ (t : List ℕ). take (length p.done + w.count) t) p.parts));
     }
 
 -- the line of the next mark stands in front of the lines of the others

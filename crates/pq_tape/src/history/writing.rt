@@ -1,6 +1,6 @@
 ghost use Rattle.std.specs.Prelude.{◌≡◌, ◌+◌, ◌≤◌, ◌++◌, ◌∷◌, [], All, Some, length, codes, decimal, IfSome, OnOk, OnErr};
 ghost use Rattle.pq_io.specs.Streams.{Rose};
-ghost use Rattle.pq_io.specs.Gathering.{WritesFront};
+ghost use Rattle.pq_io.specs.Gathering.{WritesPrefix};
 ghost use Rattle.pq_io.specs.Writing.{words_text};
 ghost use Rattle.pq_model.specs.declared.marks.Mark.{Mark};
 ghost use Rattle.pq_tape.specs.Pending.{IsStillPending};
@@ -111,7 +111,7 @@ fn make_room<K: Sink>(sink: &mut K, held: &mut Held) -> Result<(), Failed>
     ensures counted { K.faults sink.old ≤ K.faults sink.new }
     ensures failed { OnErr result (Rose (K.faults sink.old) (K.faults sink.new)) }
     ensures front { OnErr result (IfSome (K.written sink.old)
-        (λ before. WritesFront before held.old.bytes (K.written sink.new))) }
+        (λ before. WritesPrefix before held.old.bytes (K.written sink.new))) }
 {
     if held.len() + LONGEST_LINE > HELD {
         put_all(sink, held.as_str().as_bytes())?;
@@ -139,7 +139,7 @@ pub fn write_history<K: Sink>(
     ensures counted { K.faults sink.old ≤ K.faults sink.new }
     ensures failed { OnErr result (Rose (K.faults sink.old) (K.faults sink.new)) }
     ensures front { OnErr result (IfSome (K.written sink.old)
-        (λ before. WritesFront before (history_text head marks.now left) (K.written sink.new))) }
+        (λ before. WritesPrefix before (history_text head marks.now left) (K.written sink.new))) }
 {
     let mut held = ArrayString::new();
     push_head(&mut held, head);

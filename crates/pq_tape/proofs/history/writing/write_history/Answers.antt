@@ -58,4 +58,4 @@ returns-clause-appended g c =
 pub returns-clause-front : goal.returns-clause-front
 returns-clause-front g c =
     let whole : List ℕ = history_text c.args.head c.args.marks.now c.args.left in
-    err_so c.put_all.result (fails (g.K.Sink.written c.args.sink.now) (g.K.Sink.written c.make_room-2.new.sink) (g.K.Sink.written c.put_all.new.sink) c.as_bytes.result.now [] whole (last_pending g c)) c.put_all.ensures.front
+    err_so c.put_all.result (fails (g.K.Sink.written c.args.sink.now) (g.K.Sink.written c.make_room-2.new.sink) (g.K.Sink.written c.put_all.new.sink) c.as_bytes.result.now [] whole (last_pending g c)) c.put_all.ensures.prefix
