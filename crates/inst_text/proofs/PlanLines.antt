@@ -10,6 +10,7 @@ use Rattle.pq_io.specs.Reading.{◌>>=◌, Read, Spells, number_at, number_of, a
 use Rattle.pq_io.proofs.Binds.{ok_is, bind_ok, guard_ok}
 use Rattle.pq_io.proofs.Plain.{number_spelled}
 use Rattle.pq_io.proofs.Taken.{number_of_is, number_taken, number_found, fixed_taken, fixed_found, line_ends, end_found}
+use Rattle.inst_text.specs.Limits.{total_limit, stated_limit}
 use Rattle.inst_text.specs.Several.{several, EachLine}
 use Rattle.inst_text.specs.Knapsack.{AreNumbers}
 use Rattle.inst_text.specs.Shop.{AreStarts}
@@ -23,26 +24,26 @@ Words = List (List ℕ)
 
 pub record StatedTaken (fixed : List ℕ) (words : Words) (n : ℕ) : Type 0 where
   pub spells : SpellsStated fixed words n
-  pub limit : n ≤ 4294967295
+  pub limit : n ≤ stated_limit
 
 pub stated_taken : (fixed : List ℕ) (words : Words) (n : ℕ) → stated_of fixed words ≡ Ok n → StatedTaken fixed words n
 unfolding stated_of
 stated_taken fixed words n e =
-    let a = bind_ok (after_word fixed words) (λ rest. number_at 0 4294967295 rest >>= λ number. at_line_end number.rest >>= λ end. Ok number.value) n e in
-    let b = bind_ok (number_at 0 4294967295 a.0) (λ number. at_line_end number.rest >>= λ end. Ok number.value) n a.2 in
+    let a = bind_ok (after_word fixed words) (λ rest. number_at 0 stated_limit rest >>= λ number. at_line_end number.rest >>= λ end. Ok number.value) n e in
+    let b = bind_ok (number_at 0 stated_limit a.0) (λ number. at_line_end number.rest >>= λ end. Ok number.value) n a.2 in
     let z = bind_ok (at_line_end b.0.rest) (λ end. Ok b.0.value) n b.2 in
-    let v = number_taken 0 4294967295 a.0 b.0 b.1 in
+    let v = number_taken 0 stated_limit a.0 b.0 b.1 in
     let last : b.0.rest ≡ [] = line_ends b.0.rest z.0 z.1 in
     let whole : fixed ∷ v.word ∷ [] ≡ words = sym (fixed_taken fixed words a.0 a.1 ∙ ap (λ (t : Words). fixed ∷ t) (v.first ∙ ap (λ (t : Words). v.word ∷ t) last)) in
     let here : SpellsStated fixed words b.0.value = subst (λ (t : Words). SpellsStated fixed t b.0.value) whole (refl, v.spells) in
     subst (λ k. StatedTaken fixed words k) (ok_is b.0.value n z.2) (record { spells = here; limit = v.below })
 
-pub stated_found : (fixed : List ℕ) (words : Words) (n : ℕ) → SpellsStated fixed words n → n ≤ 4294967295 → stated_of fixed words ≡ Ok n
+pub stated_found : (fixed : List ℕ) (words : Words) (n : ℕ) → SpellsStated fixed words n → n ≤ stated_limit → stated_of fixed words ≡ Ok n
 unfolding stated_of
 stated_found fixed [] n spells limit = absurd spells
 stated_found fixed (v ∷ []) n spells limit = absurd spells
 stated_found fixed (v ∷ w ∷ []) n spells limit =
-    rw (spells.0, fixed_found fixed (w ∷ []), number_found 0 4294967295 w [] n spells.1 (omega arith) limit, end_found) refl
+    rw (spells.0, fixed_found fixed (w ∷ []), number_found 0 stated_limit w [] n spells.1 (omega arith) limit, end_found) refl
 stated_found fixed (v ∷ w ∷ x ∷ ws) n spells limit = absurd spells
 
 -- item numbers
@@ -55,15 +56,15 @@ record ItemNumberTaken (n low : ℕ) (word : List ℕ) (k : ℕ) : Type 0 where
 item_number_taken : (n low : ℕ) (word : List ℕ) (k : ℕ) → item_number_of n low word ≡ Ok k → ItemNumberTaken n low word k
 unfolding item_number_of
 item_number_taken n low word k e =
-    let a = bind_ok (number_of low 1023 word) (λ number. cond (ltb number n) (Ok number) (Err Range)) k e in
+    let a = bind_ok (number_of low n word) (λ number. cond (ltb number n) (Ok number) (Err Range)) k e in
     let b = guard_ok (ltb a.0 n) a.0 k Range a.2 in
-    let v = number_of_is low 1023 word a.0 a.1 in
+    let v = number_of_is low n word a.0 a.1 in
     subst (λ m. ItemNumberTaken n low word m) b.1 (record { spells = v.0; above = v.1; below = ltb-true a.0 n b.0 })
 
-item_number_found : (n low : ℕ) (word : List ℕ) (k : ℕ) → Spells word k → low ≤ k → k < n → n ≤ 1024 → item_number_of n low word ≡ Ok k
+item_number_found : (n low : ℕ) (word : List ℕ) (k : ℕ) → Spells word k → low ≤ k → k < n → item_number_of n low word ≡ Ok k
 unfolding item_number_of
-item_number_found n low word k spells above below few =
-    let e : number_of low 1023 word ≡ Ok k = number_spelled low 1023 word spells.0 (omega (arith, spells.1)) (omega (arith, spells.1)) ∙ ap (λ m. Ok m) spells.1 in
+item_number_found n low word k spells above below =
+    let e : number_of low n word ≡ Ok k = number_spelled low n word spells.0 (omega (arith, spells.1)) (omega (arith, spells.1)) ∙ ap (λ m. Ok m) spells.1 in
     rw (e, lt-ltb k n below) refl
 
 record NumbersTaken (n low : ℕ) (words : Words) (ks : List ℕ) : Type 0 where
@@ -79,12 +80,12 @@ numbers_taken n low (w ∷ ws) ks e =
     let vs = numbers_taken n (a.0 + 1) ws b.0 b.1 in
     subst (λ (t : List ℕ). NumbersTaken n low (w ∷ ws) t) (ok_is (a.0 ∷ b.0) ks b.2) (record { spells = (v.spells, vs.spells); are = (v.above, v.below, vs.are) })
 
-numbers_found : (n low : ℕ) (words : Words) (ks : List ℕ) → n ≤ 1024 → SpellNumbers words ks → AreNumbers low n ks → item_numbers_of n low words ≡ Ok ks
-numbers_found n low [] [] few spells are = refl
-numbers_found n low [] (k ∷ ks) few spells are = absurd spells
-numbers_found n low (w ∷ ws) [] few spells are = absurd spells
-numbers_found n low (w ∷ ws) (k ∷ ks) few spells are =
-    rw (item_number_found n low w k spells.0 are.0 are.1 few, numbers_found n (k + 1) ws ks few spells.1 are.2) refl
+numbers_found : (n low : ℕ) (words : Words) (ks : List ℕ) → SpellNumbers words ks → AreNumbers low n ks → item_numbers_of n low words ≡ Ok ks
+numbers_found n low [] [] spells are = refl
+numbers_found n low [] (k ∷ ks) spells are = absurd spells
+numbers_found n low (w ∷ ws) [] spells are = absurd spells
+numbers_found n low (w ∷ ws) (k ∷ ks) spells are =
+    rw (item_number_found n low w k spells.0 are.0 are.1, numbers_found n (k + 1) ws ks spells.1 are.2) refl
 
 pub record ChoiceTaken (n : ℕ) (words : Words) (ks : List ℕ) : Type 0 where
   pub spells : SpellsItems words ks
@@ -97,15 +98,15 @@ choice_taken n words ks e =
     let v = numbers_taken n 0 a.0 ks a.2 in
     subst (λ (t : Words). ChoiceTaken n t ks) (sym (fixed_taken (codes "items") words a.0 a.1)) (record { spells = (refl, v.spells); are = v.are })
 
-pub choice_found : (n : ℕ) (words : Words) (ks : List ℕ) → n ≤ 1024 → SpellsItems words ks → AreNumbers 0 n ks → choice_of n words ≡ Ok ks
+pub choice_found : (n : ℕ) (words : Words) (ks : List ℕ) → SpellsItems words ks → AreNumbers 0 n ks → choice_of n words ≡ Ok ks
 unfolding choice_of
-choice_found n [] ks few spells are = absurd spells
-choice_found n (w ∷ ws) ks few spells are = rw (spells.0, fixed_found (codes "items") ws, numbers_found n 0 ws ks few spells.1 are) refl
+choice_found n [] ks spells are = absurd spells
+choice_found n (w ∷ ws) ks spells are = rw (spells.0, fixed_found (codes "items") ws, numbers_found n 0 ws ks spells.1 are) refl
 
 -- start times
 
 abbrev pub AreInTime : List ℕ → Type 0
-AreInTime row = AllByRecursion (λ (t : ℕ). t ≤ 67108863) row
+AreInTime row = AllByRecursion (λ (t : ℕ). t ≤ total_limit) row
 
 record StartsTaken (n : ℕ) (words : Words) (x : Read (List ℕ) Words) : Type 0 where
   front : Words
@@ -120,9 +121,9 @@ starts_taken zero words x e =
     subst (λ (y : Read (List ℕ) Words). StartsTaken 0 words y) (ok_is (record { value = []; rest = words }) x e)
     (record { front = []; first = refl; spell = tt; count = refl; limits = tt })
 starts_taken (suc n) words x e =
-    let p = bind_ok (number_at 0 67108863 words) (λ t. before t.value (starts_on n t.rest)) x e in
+    let p = bind_ok (number_at 0 total_limit words) (λ t. before t.value (starts_on n t.rest)) x e in
     let q = bind_ok (starts_on n p.0.rest) (λ ts. Ok (record { value = p.0.value ∷ ts.value; rest = ts.rest })) x p.2 in
-    let v = number_taken 0 67108863 words p.0 p.1 in
+    let v = number_taken 0 total_limit words p.0 p.1 in
     let vs = starts_taken n p.0.rest q.0 q.1 in
     let made : Read (List ℕ) Words = record { value = p.0.value ∷ q.0.value; rest = q.0.rest } in
     subst (λ (y : Read (List ℕ) Words). StartsTaken (suc n) words y) (ok_is made x q.2)
@@ -134,7 +135,7 @@ starts_found [] [] spell limits = refl
 starts_found [] (t ∷ ts) spell limits = absurd spell
 starts_found (w ∷ ws) [] spell limits = absurd spell
 starts_found (w ∷ ws) (t ∷ ts) spell limits =
-    rw (number_found 0 67108863 w ws t spell.0 (omega arith) limits.0, starts_found ws ts spell.1 limits.1) refl
+    rw (number_found 0 total_limit w ws t spell.0 (omega arith) limits.0, starts_found ws ts spell.1 limits.1) refl
 
 record StartRowTaken (n : ℕ) (words : Words) (row : List ℕ) : Type 0 where
   spell : SpellNumbers words row

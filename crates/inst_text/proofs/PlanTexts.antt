@@ -5,6 +5,7 @@ use Rattle.pq_io.specs.Lines.{Line, Text}
 use Rattle.pq_io.specs.Reading.{◌>>=◌, Read, line_at}
 use Rattle.pq_io.proofs.Binds.{ok_is, bind_ok}
 use Rattle.pq_io.proofs.Taken.{line_taken, line_found}
+use Rattle.inst_text.specs.Limits.{item_limit, stated_limit}
 use Rattle.inst_text.specs.declared.plan.Claimed.{Claimed}
 use Rattle.inst_text.specs.Several.{both}
 use Rattle.inst_text.specs.Knapsack.{Instance, AreNumbers, instance_at}
@@ -21,7 +22,7 @@ use Rattle.inst_text.proofs.PlanLines.{stated_taken, stated_found, choice_taken,
 -- lines that spell a choice of n items
 pub record MeansChoice (n : ℕ) (lines : List Line) (c : Claimed (List ℕ)) : Type 0 where
   pub spell : SpellChoice lines c
-  pub stated : c.stated ≤ 4294967295
+  pub stated : c.stated ≤ stated_limit
   pub shape : AreNumbers 0 n c.plan
 
 choice_at_taken : (n : ℕ) (text : Text) (x : Read (Claimed (List ℕ)) Text) → choice_at n text ≡ Ok x → Front (MeansChoice n) text x
@@ -41,19 +42,19 @@ choice_at_taken n text x e =
       means = record { spell = (v.spells, w.spells); stated = v.limit; shape = w.are };
     })
 
-choice_at_found : (n : ℕ) → n ≤ 1024 → (lines rest : List Line) (end : ℕ) (c : Claimed (List ℕ)) → MeansChoice n lines c → choice_at n (record { lines = lines ++ rest; end = end }) ≡ Ok (record { value = c; rest = record { lines = rest; end = end } })
+choice_at_found : (n : ℕ) (lines rest : List Line) (end : ℕ) (c : Claimed (List ℕ)) → MeansChoice n lines c → choice_at n (record { lines = lines ++ rest; end = end }) ≡ Ok (record { value = c; rest = record { lines = rest; end = end } })
 unfolding choice_at
-choice_at_found n few [] rest end c m = absurd m.spell
-choice_at_found n few (k ∷ []) rest end c m = absurd m.spell
-choice_at_found n few (k ∷ l ∷ []) rest end c m =
+choice_at_found n [] rest end c m = absurd m.spell
+choice_at_found n (k ∷ []) rest end c m = absurd m.spell
+choice_at_found n (k ∷ l ∷ []) rest end c m =
     rw (
       line_found (stated_of (codes "value")) k (l ∷ rest) end c.stated (stated_found (codes "value") k.words c.stated m.spell.0 m.stated),
-      line_found (choice_of n) l rest end c.plan (choice_found n l.words c.plan few m.spell.1 m.shape),
+      line_found (choice_of n) l rest end c.plan (choice_found n l.words c.plan m.spell.1 m.shape),
     ) refl
-choice_at_found n few (k ∷ l ∷ j ∷ ls) rest end c m = absurd m.spell
+choice_at_found n (k ∷ l ∷ j ∷ ls) rest end c m = absurd m.spell
 
-choice_read : (n : ℕ) → n ≤ 1024 → IsReader (choice_at n) (MeansChoice n)
-choice_read n few = record { taken = choice_at_taken n; found = choice_at_found n few }
+choice_read : (n : ℕ) → IsReader (choice_at n) (MeansChoice n)
+choice_read n = record { taken = choice_at_taken n; found = choice_at_found n }
 
 abbrev ChoiceOf : Instance → List Line → Claimed (List ℕ) → Type 0
 ChoiceOf i = MeansChoice (length i.items)
@@ -62,7 +63,7 @@ abbrev KnapsackPlan : List Line → Instance × Claimed (List ℕ) → Type 0
 KnapsackPlan = MeansBoth MeansInstance ChoiceOf
 
 knapsack_plan_read : IsReader (both instance_at (λ i. choice_at (length i.items))) KnapsackPlan
-knapsack_plan_read = both_read instance_at (λ i. choice_at (length i.items)) MeansInstance ChoiceOf instance_read (λ lines i m. choice_read (length i.items) m.limits.count)
+knapsack_plan_read = both_read instance_at (λ i. choice_at (length i.items)) MeansInstance ChoiceOf instance_read (λ lines i m. choice_read (length i.items))
 
 pub knapsack_plan_is_spelled : (bytes : List ℕ) (v : Instance × Claimed (List ℕ)) → knapsack_plan_of bytes ≡ Ok v → IsKnapsackPlanText bytes v.0 v.1
 unfolding knapsack_plan_of
@@ -92,17 +93,17 @@ numbers_below : (low n m : ℕ) (ks : List ℕ) → n ≤ m → AreNumbers low n
 numbers_below low n m [] le are = tt
 numbers_below low n m (k ∷ ks) le are = (are.0, omega (arith, are.1), numbers_below (k + 1) n m ks le are.2)
 
-pub choice_fits : (n : ℕ) (text : Text) (x : Read (List ℕ) Text) → n ≤ 1024 → line_at (choice_of n) text ≡ Ok x → AreNumbers 0 1024 x.value
+pub choice_fits : (n : ℕ) (text : Text) (x : Read (List ℕ) Text) → n ≤ item_limit → line_at (choice_of n) text ≡ Ok x → AreNumbers 0 item_limit x.value
 choice_fits n text x few e =
     let l = line_taken (choice_of n) text x e in
-    numbers_below 0 n 1024 x.value few (choice_taken n l.line.words x.value l.value).are
+    numbers_below 0 n item_limit x.value few (choice_taken n l.line.words x.value l.value).are
 
 -- start times
 
 -- lines that spell start times of so many jobs, n of them each
 pub record MeansStarts (jobs n : ℕ) (lines : List Line) (c : Claimed (List (List ℕ))) : Type 0 where
   pub spell : SpellStarts lines c
-  pub stated : c.stated ≤ 4294967295
+  pub stated : c.stated ≤ stated_limit
   pub jobs_are : length c.plan ≡ jobs
   pub steps : AllByRecursion (λ (row : List ℕ). length row ≡ n) c.plan
   pub limits : AreStarts c.plan

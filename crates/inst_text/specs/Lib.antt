@@ -1,3 +1,5 @@
+-- The rooms of the definitions.
+pub mod Limits
 pub mod Several
 pub mod Knapsack
 pub mod Shop

@@ -7,6 +7,7 @@ use Rattle.pq_io.specs.declared.text.fault.BadInput.{BadInput}
 use Rattle.pq_io.specs.Lines.{Line, Text, text_of}
 use Rattle.pq_io.specs.Reading.{◌>>=◌, Read, Spells, number_at, number_of, word_at, after_word, at_line_end, line_at}
 use Rattle.inst_text.specs.declared.plan.Claimed.{Claimed}
+use Rattle.inst_text.specs.Limits.{stated_limit, total_limit}
 use Rattle.inst_text.specs.Several.{several, told, EachLine, both, Follow, whole}
 use Rattle.inst_text.specs.Knapsack.{Instance, IsInstance, AreNumbers, SpellKnapsack, instance_at}
 use Rattle.inst_text.specs.Shop.{JobShop, IsJobShop, AreStarts, SpellShop, shop_at}
@@ -15,14 +16,14 @@ use Rattle.inst_text.specs.Shop.{JobShop, IsJobShop, AreStarts, SpellShop, shop_
 unfoldable pub stated_of : List ℕ → List (List ℕ) → Result ℕ Cause
 stated_of word words = do
   rest ← after_word word words
-  number ← number_at 0 4294967295 rest
+  number ← number_at 0 stated_limit rest
   end ← at_line_end number.rest
   Ok number.value
 
--- An item number below n, and not below low. There are at most 1,024 items.
+-- An item number below n, and not below low.
 unfoldable pub item_number_of : ℕ → ℕ → List ℕ → Result ℕ Cause
 item_number_of n low word = do
-  number ← number_of low 1023 word
+  number ← number_of low n word
   if nat_lt number n then Ok number else Err Range
 
 -- The same of the next word, and what is left behind it.
@@ -55,11 +56,11 @@ choice_at n text = do
 
 -- Some start times.
 abbrev pub starts_on : ℕ → List (List ℕ) → Result (Read (List ℕ) (List (List ℕ))) Cause
-starts_on n words = several (λ (s : Unit {0}). number_at 0 67108863) (λ s start. s) n tt words
+starts_on n words = several (λ (s : Unit {0}). number_at 0 total_limit) (λ s start. s) n tt words
 
 -- the same, with faults on this line
 abbrev pub told_starts_on : ℕ → ℕ → List (List ℕ) → Result (Read (List ℕ) (List (List ℕ))) BadInput
-told_starts_on line n words = several (told line (λ (s : Unit {0}). number_at 0 67108863)) (λ s start. s) n tt words
+told_starts_on line n words = several (told line (λ (s : Unit {0}). number_at 0 total_limit)) (λ s start. s) n tt words
 
 -- The line of a job's start times, n of them.
 unfoldable pub start_row_of : ℕ → List (List ℕ) → Result (List ℕ) Cause
@@ -124,7 +125,7 @@ pub record IsKnapsackPlanText (bytes : List ℕ) (i : Instance) (c : Claimed (Li
   pub size : length bytes ≤ 67108864
   pub lines : Follow SpellKnapsack SpellChoice (text_of bytes).lines i c
   pub limits : IsInstance i
-  pub stated : c.stated ≤ 4294967295
+  pub stated : c.stated ≤ stated_limit
   pub shape : AreNumbers 0 (length i.items) c.plan
 
 -- A text of this shop with this plan behind it, start times of its operations.
@@ -132,5 +133,5 @@ pub record IsShopPlanText (bytes : List ℕ) (s : JobShop) (c : Claimed (List (L
   pub size : length bytes ≤ 67108864
   pub lines : Follow SpellShop SpellStarts (text_of bytes).lines s c
   pub limits : IsJobShop s
-  pub stated : c.stated ≤ 4294967295
+  pub stated : c.stated ≤ stated_limit
   pub shape : AreStartsOf s c.plan

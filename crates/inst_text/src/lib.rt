@@ -2,6 +2,7 @@
 #![tactic(auto)]
 
 mod knapsack;
+mod limits;
 mod plan;
 mod shop;
 mod size;
@@ -9,6 +10,10 @@ mod size;
 pub use knapsack::{
     Choice, Item, Items, knapsack_texts_are_read, read_knapsack, write_choice,
     written_knapsacks_are_read,
+};
+pub use limits::{
+    CAPACITY_LIMIT, COMMAND_LIMIT, ITEM_LIMIT, JOB_LIMIT, LANE_LIMIT, MACHINE_LIMIT,
+    OPERATION_LIMIT, STATED_LIMIT, TOTAL_LIMIT, WEIGHT_LIMIT,
 };
 pub use plan::{
     Claimed, choices_are_read_behind, knapsack_plan_texts_are_read, read_plan_knapsack,

@@ -1,22 +1,21 @@
 ghost use Rattle.std.specs.Prelude.{◌≡◌, ◌^◌, ◌<◌, IfOk, Ok};
 ghost use Rattle.pq_io.specs.Reading.{Leaves, Gives, GivesAndLeaves, line_at};
+ghost use Rattle.inst_text.specs.Limits.{total_limit};
 ghost use Rattle.inst_text.specs.Knapsack.{head_of, item_of, items_at, instance_at, knapsack_of, Instance, IsKnapsackText};
 
 use crate::knapsack::{Item, Items};
+use crate::limits::{CAPACITY_LIMIT, ITEM_LIMIT, TOTAL_LIMIT, WEIGHT_LIMIT};
 use crate::size::open_text;
 use pq_io::{BadInput, Cause, ReadRefusal, TextReader, WordReader, on_line};
 use std::alloc::Global;
-
-/// The most that all values may add up to.
-const VALUE_LIMIT: u64 = 67_108_863;
 
 /// The number of items, and the capacity.
 #[tactic(auto, unfolding(crate::specs::Knapsack::head_of))]
 fn head(words: &mut WordReader<'_>) -> Result<(u64, u64), Cause>
     ensures { result ≡ head_of words.old.words }
 {
-    let count = words.number(0, 1_024)?;
-    let capacity = words.number(0, 1_000_000_000_000)?;
+    let count = words.number(0, u64::from(ITEM_LIMIT))?;
+    let capacity = words.number(0, CAPACITY_LIMIT)?;
     words.finish()?;
     Ok((count, capacity))
 }
@@ -27,7 +26,7 @@ fn item(words: &mut WordReader<'_>, room: u64) -> Result<Item, Cause>
     requires { room < 2 ^ 32 }
     ensures { result ≡ item_of room words.old.words }
 {
-    let weight = words.number(0, 1_000_000_000)?;
+    let weight = words.number(0, u64::from(WEIGHT_LIMIT))?;
     let value = words.number(0, room)?;
     words.finish()?;
     Ok(Item {
@@ -63,10 +62,10 @@ fn next_items(
     text: &mut TextReader<'_>,
     count: u64,
 ) -> Result<Vec<Item>, ReadRefusal>
-    ensures { GivesAndLeaves (λ items. items.items) result text.new (items_at count 67108863 text.old) }
+    ensures { GivesAndLeaves (λ items. items.items) result text.new (items_at count total_limit text.old) }
 {
     let mut items = Vec::with_capacity(alloc, count as usize)?;
-    let mut room = VALUE_LIMIT;
+    let mut room = u64::from(TOTAL_LIMIT);
     for _ in 0..count {
         let item = next_item(text, room)?;
         room -= u64::from(item.value);

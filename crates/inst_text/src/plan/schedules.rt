@@ -1,9 +1,11 @@
 ghost use Rattle.std.specs.Prelude.{◌≡◌, map, IfOk, Ok, List, ℕ};
 ghost use Rattle.pq_io.specs.Reading.{Leaves, Gives, GivesAndLeaves, number_at, on_line, line_at};
 ghost use Rattle.inst_text.specs.declared.plan.Claimed.{Claimed};
+ghost use Rattle.inst_text.specs.Limits.{total_limit};
 ghost use Rattle.inst_text.specs.Shop.{JobShop};
 ghost use Rattle.inst_text.specs.Plans.{told_starts_on, start_row_of, start_rows_at, starts_at, shop_plan_of, IsShopPlanText};
 
+use crate::limits::TOTAL_LIMIT;
 use crate::plan::Claimed;
 use crate::plan::stated::next_stated;
 use crate::shop::{Jobs, Starts, next_shop};
@@ -11,16 +13,13 @@ use crate::size::open_text;
 use pq_io::{BadInput, ReadRefusal, TextReader, WordReader, on_line};
 use std::alloc::Global;
 
-/// The latest time at which an operation may start.
-const START_LIMIT: u64 = 67_108_863;
-
 /// Takes a start time, and tells the line where it is faulty.
 fn next_start(words: &mut WordReader<'_>) -> Result<u32, BadInput>
-    ensures exact { Leaves (λ t. t) result words.new.words (on_line words.old.number (number_at 0 67108863 words.old.words)) }
+    ensures exact { Leaves (λ t. t) result words.new.words (on_line words.old.number (number_at 0 total_limit words.old.words)) }
     ensures line { words.new.number ≡ words.old.number }
 {
     let line = words.line();
-    let start = on_line(line, words.number(0, START_LIMIT))?;
+    let start = on_line(line, words.number(0, u64::from(TOTAL_LIMIT)))?;
     Ok(start as u32)
 }
 

@@ -1,25 +1,22 @@
 ghost use Rattle.std.specs.Prelude.{◌≡◌, ◌-◌, ◌≤◌, ◌^◌, ◌<◌, map, IfOk, Ok};
 ghost use Rattle.pq_io.specs.Reading.{Leaves, Gives, GivesAndLeaves, on_line, line_at};
+ghost use Rattle.inst_text.specs.Limits.{machine_limit, total_limit};
 ghost use Rattle.inst_text.specs.Shop.{JobShop, IsShopText, row_time, shop_head_of, operation_at, told_operations_at, row_of, rows_at, shop_at, shop_of};
 
+use crate::limits::{JOB_LIMIT, MACHINE_LIMIT, OPERATION_LIMIT, TOTAL_LIMIT};
 use crate::shop::{Jobs, Operation};
 use crate::size::open_text;
 use pq_io::{BadInput, Cause, ReadRefusal, TextReader, WordReader, on_line};
 use std::alloc::Global;
-
-/// The most operations that a shop may have.
-const OPERATION_LIMIT: u64 = 1_024;
-/// The most that all times may add up to.
-const TIME_LIMIT: u64 = 67_108_863;
 
 /// The number of jobs, and the number of machines.
 #[tactic(auto, unfolding(crate::specs::Shop::shop_head_of))]
 fn head(words: &mut WordReader<'_>) -> Result<(u64, u64), Cause>
     ensures { result ≡ shop_head_of words.old.words }
 {
-    let jobs = words.number(1, 100)?;
-    let machines = words.number(1, 100)?;
-    if jobs * machines > OPERATION_LIMIT {
+    let jobs = words.number(1, u64::from(JOB_LIMIT))?;
+    let machines = words.number(1, u64::from(MACHINE_LIMIT))?;
+    if jobs * machines > u64::from(OPERATION_LIMIT) {
         return Err(Cause::Range);
     }
     words.finish()?;
@@ -40,7 +37,7 @@ fn next_head(text: &mut TextReader<'_>) -> Result<(u64, u64), BadInput>
 #[tactic(auto, unfolding(crate::specs::Shop::operation_at))]
 fn operation(words: &mut WordReader<'_>, machines: u64, room: u64) -> Result<Operation, Cause>
     requires some { 1 ≤ machines }
-    requires few { machines ≤ 100 }
+    requires few { machines ≤ machine_limit }
     requires room { room < 2 ^ 32 }
     ensures exact { Leaves (λ o. o) result words.new.words (operation_at machines room words.old.words) }
     ensures fits { IfOk result (λ o. o.time ≤ room) }
@@ -61,7 +58,7 @@ fn next_operation(
     room: u64,
 ) -> Result<Operation, BadInput>
     requires some { 1 ≤ machines }
-    requires few { machines ≤ 100 }
+    requires few { machines ≤ machine_limit }
     requires room { room < 2 ^ 32 }
     ensures exact { Leaves (λ o. o) result words.new.words (on_line words.old.number (operation_at machines room words.old.words)) }
     ensures fits { IfOk result (λ o. o.time ≤ room) }
@@ -79,7 +76,7 @@ fn next_operations(
     room: &mut u64,
 ) -> Result<Vec<Operation>, ReadRefusal>
     requires some { 1 ≤ machines }
-    requires few { machines ≤ 100 }
+    requires few { machines ≤ machine_limit }
     requires room { room.old < 2 ^ 32 }
     ensures exact { GivesAndLeaves (λ row. row.items) result words.new.words (told_operations_at words.old.number machines machines room.old words.old.words) }
     ensures line { words.new.number ≡ words.old.number }
@@ -103,7 +100,7 @@ fn next_row(
     room: &mut u64,
 ) -> Result<Vec<Operation>, ReadRefusal>
     requires some { 1 ≤ machines }
-    requires few { machines ≤ 100 }
+    requires few { machines ≤ machine_limit }
     requires room { room.old < 2 ^ 32 }
     ensures exact { GivesAndLeaves (λ row. row.items) result text.new (line_at (row_of machines room.old) text.old) }
     ensures left { IfOk result (λ row. room.new ≡ room.old - row_time row.items) }
@@ -123,11 +120,11 @@ fn next_rows(
     machines: u64,
 ) -> Result<Vec<Vec<Operation>>, ReadRefusal>
     requires some { 1 ≤ machines }
-    requires few { machines ≤ 100 }
-    ensures { GivesAndLeaves (λ rows. map (λ row. row.items) rows.items) result text.new (rows_at jobs machines 67108863 text.old) }
+    requires few { machines ≤ machine_limit }
+    ensures { GivesAndLeaves (λ rows. map (λ row. row.items) rows.items) result text.new (rows_at jobs machines total_limit text.old) }
 {
     let mut rows = Vec::with_capacity(alloc, jobs as usize)?;
-    let mut room = TIME_LIMIT;
+    let mut room = u64::from(TOTAL_LIMIT);
     for _ in 0..jobs {
         let row = next_row(alloc, text, machines, &mut room)?;
         rows.push(row)?;

@@ -12,13 +12,13 @@ returns-in_err-item c =
     rw (p.1, p.2) (ends (λ r. line_at (item_of r)) less c.loop.items.items c.args.count c.loop.counter c.loop.room c.loop.text _ _ c.loop-test.true c.in_err-item.ensures c.loop.invariant.so_far)
 
 pub overflow_sub-room : goal.overflow_sub-room
-overflow_sub-room c = rw c.from-room.ensures (item_fits c.loop.room c.loop.text _ c.in_ok-item.ensures)
+overflow_sub-room c = rw c.from-room-in-loop.ensures (item_fits c.loop.room c.loop.text _ c.in_ok-item.ensures)
 
 pub loop-preserved : goal.loop-preserved
 loop-preserved c = record {
   room = omega arith;
   so_far =
-      rw (c.in_ok-push.ensures.items, c.from-room.ensures)
+      rw (c.in_ok-push.ensures.items, c.from-room-in-loop.ensures)
       (goes_on (λ r. line_at (item_of r)) less c.loop.items.items c.args.count c.loop.counter c.loop.room c.loop.text c.in_ok-item.item _ _ c.loop-test.true c.in_ok-item.ensures c.loop.invariant.so_far);
 }
 
