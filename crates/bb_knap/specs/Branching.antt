@@ -4,7 +4,8 @@ use Rattle.std.specs.List.Sorted.{IsPermutation}
 use Rattle.inst_text.specs.declared.knapsack.Item.{Item}
 use Rattle.inst_text.specs.Knapsack.{Instance, total_value}
 use Rattle.bb_problem.specs.Tree.{Tree}
-use Rattle.bb_knap.specs.Plans.{item_at, weight_of, value_of, IsChoiceOf}
+use Rattle.bb_problem.specs.Meaning.{Meaning}
+use Rattle.bb_knap.specs.Plans.{item_at, weight_of, value_of, IsChoiceOf, IsFeasible, cost_of}
 use Rattle.bb_knap.specs.Order.{order_of}
 
 -- The numbers that decisions take: one decision on each number, from the first on. A decision is 1 to take the
@@ -96,3 +97,15 @@ least_cost i = total_value i.items - best_value i.capacity i.items
 -- Dantzig's bound of all items with the whole capacity.
 abbrev pub root_bound : Instance → ℕ
 root_bound i = dantzig i.items i.capacity (order_of i.items)
+
+-- what an instance means to a search: its choices, and the tree of decisions
+abbrev pub meaning_of : Instance → Meaning Node (List ℕ)
+meaning_of i = record {
+  is_feasible = IsFeasible i;
+  cost_of = cost_of i;
+  least = least_cost i;
+  tree = tree_of i;
+  tree_size = tree_size i;
+  stands = Stands i;
+  reaches = Reaches i;
+}

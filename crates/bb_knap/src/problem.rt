@@ -1,9 +1,9 @@
 ghost use Rattle.std.specs.Prelude.{ℕ, List, IfOk};
 ghost use Rattle.inst_text.specs.Knapsack.{IsInstance};
 ghost use Rattle.bb_problem.specs.Expanding.{IsExpanded, IsInRange, IfLeaf};
-ghost use Rattle.bb_knap.specs.Plans.{IsFeasible, cost_of};
-ghost use Rattle.bb_knap.specs.Laws.TreeLaws.{reached, bounded, passed_on, told_apart, ends, attained, least_of_all, counted};
-ghost use Rattle.bb_knap.specs.Branching.{Stands, Reaches, IsPlanOf, children_of, tree_of, tree_size, least_cost};
+ghost use Rattle.bb_knap.specs.Plans.{cost_of};
+ghost use Rattle.bb_knap.specs.Laws.TreeLaws.{lawful};
+ghost use Rattle.bb_knap.specs.Branching.{Stands, IsPlanOf, meaning_of};
 
 use crate::knapsack::Knapsack;
 use crate::node::KnapNode;
@@ -23,19 +23,7 @@ impl Problem for Knapsack {
 
     ghost is_problem = { IsInstance };
 
-    ghost is_feasible = { IsFeasible };
-
-    ghost cost_of = { cost_of };
-
-    ghost least = { least_cost };
-
-    ghost tree = { tree_of };
-
-    ghost tree_size = { tree_size };
-
-    ghost stands = { Stands };
-
-    ghost reaches = { Reaches };
+    ghost meaning = { meaning_of };
 
     /// The node that decides nothing. Constant time.
     fn root(&self, alloc: Global) -> Result<KnapNode, NoMemory> {
@@ -55,7 +43,7 @@ impl Problem for Knapsack {
     fn expand(&self, alloc: Global, node: KnapNode) -> Result<Step<Choice, KnapNode>, NoMemory>
         ensures range { IfOk result (IsInRange (cost_of self.now)) }
         ensures expanded { IfOk result (λ step. (name : List ℕ) → Stands self.now node name →
-            IsExpanded (IsFeasible self.now) (cost_of self.now) (Stands self.now) (Reaches self.now name) name (children_of self.now name) step) }
+            IsExpanded (meaning_of self.now) name step) }
         // A leaf has just the items that its decisions take.
         ensures leaf { IfOk result (λ step. (name : List ℕ) → Stands self.now node name → IfLeaf (IsPlanOf self.now name) step) }
     {
@@ -79,19 +67,5 @@ impl Problem for Knapsack {
         self.total_value() - self.value_within(choice)
     }
 
-    ghost reached = { reached };
-
-    ghost bounded = { bounded };
-
-    ghost passed_on = { passed_on };
-
-    ghost told_apart = { told_apart };
-
-    ghost ends = { ends };
-
-    ghost attained = { attained };
-
-    ghost least_of_all = { least_of_all };
-
-    ghost counted = { counted };
+    ghost lawful = { lawful };
 }

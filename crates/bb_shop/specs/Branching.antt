@@ -2,7 +2,8 @@
 use Rattle.std.specs.Prelude.{ℕ, zero, suc, ◌≡◌, ◌+◌, ◌≤◌, ◌^◌, nat_le, nat_lt, if◌then◌else◌, List, [], ◌∷◌, ◌++◌, length, map, min}
 use Rattle.inst_text.specs.Shop.{JobShop, operations}
 use Rattle.bb_problem.specs.Tree.{Tree, below}
-use Rattle.bb_shop.specs.Plans.{makespan}
+use Rattle.bb_problem.specs.Meaning.{Meaning}
+use Rattle.bb_shop.specs.Plans.{IsFeasible, makespan}
 use Rattle.bb_shop.specs.Dispatching.{state_of, IsOrder}
 use Rattle.bb_shop.specs.Bounds.{bound_of}
 
@@ -70,3 +71,15 @@ least_from s (suc more) name = least_of (map (λ k. least_from s more (below nam
 -- the least cost of a feasible schedule
 abbrev pub least_cost : JobShop → ℕ
 least_cost s = least_from s (operations s) []
+
+-- what a shop means to a search: its schedules, and the tree of dispatch orders
+abbrev pub meaning_of : JobShop → Meaning Node (List (List ℕ))
+meaning_of s = record {
+  is_feasible = IsFeasible s;
+  cost_of = makespan s;
+  least = least_cost s;
+  tree = tree_of s;
+  tree_size = tree_size s;
+  stands = Stands s;
+  reaches = Reaches s;
+}

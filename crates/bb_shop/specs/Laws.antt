@@ -11,3 +11,4 @@ pub mod Grown
 pub mod Loads
 pub mod Ended
 pub mod Bounded
+pub mod Lawful

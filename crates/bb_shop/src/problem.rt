@@ -2,12 +2,9 @@ ghost use Rattle.std.specs.Prelude.{ℕ, List, ◌≡◌, IfOk};
 ghost use Rattle.inst_text.specs.Shop.{IsJobShop};
 ghost use Rattle.bb_problem.specs.Expanding.{IsExpanded, IsInRange, IfLeaf};
 ghost use Rattle.bb_shop.specs.Dispatching.{state_of};
-ghost use Rattle.bb_shop.specs.Plans.{IsFeasible, makespan};
-ghost use Rattle.bb_shop.specs.Branching.{Stands, Reaches, children_of, tree_of, tree_size, least_cost};
-ghost use Rattle.bb_shop.specs.Laws.Bounded.{bounded};
-ghost use Rattle.bb_shop.specs.Laws.Least.{attained, least_of_all};
-ghost use Rattle.bb_shop.specs.Laws.Reaching.{reached};
-ghost use Rattle.bb_shop.specs.Laws.TreeLaws.{passed_on, told_apart, ends, counted};
+ghost use Rattle.bb_shop.specs.Plans.{makespan};
+ghost use Rattle.bb_shop.specs.Branching.{Stands, meaning_of};
+ghost use Rattle.bb_shop.specs.Laws.Lawful.{lawful};
 
 use crate::branching::last_left;
 use crate::makespan::makespan_of;
@@ -28,19 +25,7 @@ impl Problem for Shop {
 
     ghost is_problem = { IsJobShop };
 
-    ghost is_feasible = { IsFeasible };
-
-    ghost cost_of = { makespan };
-
-    ghost least = { least_cost };
-
-    ghost tree = { tree_of };
-
-    ghost tree_size = { tree_size };
-
-    ghost stands = { Stands };
-
-    ghost reaches = { Reaches };
+    ghost meaning = { meaning_of };
 
     /// The node that dispatches nothing. O(n) in the number of jobs and machines.
     fn root(&self, alloc: Global) -> Result<ShopNode, NoMemory> {
@@ -63,7 +48,7 @@ impl Problem for Shop {
     fn expand(&self, alloc: Global, node: ShopNode) -> Result<Step<Starts, ShopNode>, NoMemory>
         ensures range { IfOk result (IsInRange (makespan self.now)) }
         ensures expanded { IfOk result (λ step. (name : List ℕ) → Stands self.now node name →
-            IsExpanded (IsFeasible self.now) (makespan self.now) (Stands self.now) (Reaches self.now name) name (children_of self.now name) step) }
+            IsExpanded (meaning_of self.now) name step) }
         // A leaf has the start times of the dispatched operations.
         ensures leaf { IfOk result (λ step. (name : List ℕ) → Stands self.now node name → IfLeaf (λ starts. starts ≡ (state_of self.now name).starts) step) }
     {
@@ -80,19 +65,5 @@ impl Problem for Shop {
         makespan_of(self.jobs(), starts)
     }
 
-    ghost reached = { reached };
-
-    ghost bounded = { bounded };
-
-    ghost passed_on = { passed_on };
-
-    ghost told_apart = { told_apart };
-
-    ghost ends = { ends };
-
-    ghost attained = { attained };
-
-    ghost least_of_all = { least_of_all };
-
-    ghost counted = { counted };
+    ghost lawful = { lawful };
 }

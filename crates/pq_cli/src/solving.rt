@@ -67,8 +67,8 @@ fn best_plan<P: Problem>(
 ) -> Result<P::Plan, Refusal>
     requires nodes { (1 ≤ nodes) × (nodes ≤ 1048560) }
     requires capacity { (1 ≤ capacity) × (capacity ≤ 1048576) }
-    ensures best { IfOk result (λ plan. IsOptimal (P.is_feasible problem.now) (P.cost_of problem.now) plan (P.cost_of problem.now plan)) }
-    ensures refused { IfErr result (ExplainsSearch (needed (P.tree problem.now) (P.least problem.now)) nodes capacity) }
+    ensures best { let m = P.meaning problem.now in IfOk result (λ plan. IsOptimal m.is_feasible m.cost_of plan (m.cost_of plan)) }
+    ensures refused { let m = P.meaning problem.now in IfErr result (ExplainsSearch (needed m.tree m.least) nodes capacity) }
 {
     let pass = plain_pass(alloc, capacity)?;
     match search_plain(alloc, problem, pass, nodes) {

@@ -6,12 +6,13 @@ use Rattle.std.proofs.lemmas.List.{append_assoc}
 use Rattle.std.proofs.lemmas.Bool.Decides.{leb_tells}
 use Rattle.std.proofs.lemmas.Nat.{pow-add}
 use Rattle.std.proofs.Math.ListN.{drop_of_length-le}
-use Rattle.bb_problem.specs.Tree.{below, total, names_from, names}
+use Rattle.bb_problem.specs.Tree.{below, total, nodes_from, node_count}
+use Rattle.bb_problem.specs.Meaning.{IsLawful}
 use Rattle.inst_text.specs.declared.knapsack.Item.{Item}
 use Rattle.inst_text.specs.Knapsack.{Instance, IsInstance, total_value}
 use Rattle.bb_knap.specs.Plans.{item_at, weight_of, value_of, IsFeasible, cost_of}
 use Rattle.bb_knap.specs.Order.{goes_before, order_of}
-use Rattle.bb_knap.specs.Branching.{taken, dantzig, taken_of, rest_of, room_of, bound_of, choices_at, children_of, tree_of, tree_size, Reaches, least_cost, root_bound}
+use Rattle.bb_knap.specs.Branching.{taken, dantzig, taken_of, rest_of, room_of, bound_of, choices_at, children_of, tree_of, tree_size, Reaches, least_cost, root_bound, meaning_of}
 use Rattle.bb_knap.specs.Laws.InOrder.{weight_of-append, value_of-append, total-order_below, IsInOrder-order_below, IsInOrder-drop, length-order_below, weight_of-total, value_of-total}
 use Rattle.bb_knap.specs.Laws.Dantzig.{dantzig_law}
 use Rattle.bb_knap.specs.Laws.Taken.{taken-append, taken-none, taken-left, taken-taken, decisions_for, is_among, where_, total-decided, sum_below-among}
@@ -167,17 +168,29 @@ power-suc n =
     let e : suc n + 1 ≡ 1 + (n + 1) = omega arith in
     rw e (pow-add 2 1 (n + 1))
 
-names-below : (i : Instance) (more : ℕ) (name : List ℕ) → names_from (tree_of i) more name + 1 ≤ 2 ^ (more + 1)
+names-below : (i : Instance) (more : ℕ) (name : List ℕ) → nodes_from (tree_of i) more name + 1 ≤ 2 ^ (more + 1)
 unfolding children_of
 names-below i zero name = omega arith
 names-below i (suc more) name =
-    let two = two_children (λ k. names_from (tree_of i) more (below name k)) (2 ^ (more + 1)) (λ k. names-below i more (below name k)) i.items (room_of i name) (rest_of i name) in
+    let two = two_children (λ k. nodes_from (tree_of i) more (below name k)) (2 ^ (more + 1)) (λ k. names-below i more (below name k)) i.items (room_of i name) (rest_of i name) in
     omega (arith, two, power-suc more)
 
 under_min : (a b n : ℕ) → min a b < b → n ≤ a → n ≤ min a b
 under_min a b n lt le = omega (arith, lt, le)
 
-pub counted : (i : Instance) → IsInstance i → tree_size i < 2 ^ 64 → names (tree_of i) ≤ tree_size i
+pub counted : (i : Instance) → IsInstance i → tree_size i < 2 ^ 64 → node_count (tree_of i) ≤ tree_size i
 counted i limits small =
     let few = names-below i (length i.items) [] in
-    under_min (2 ^ (length i.items + 1)) (2 ^ 64) (names (tree_of i)) small (omega (arith, few))
+    under_min (2 ^ (length i.items + 1)) (2 ^ 64) (node_count (tree_of i)) small (omega (arith, few))
+
+pub lawful : (i : Instance) → IsInstance i → IsLawful (meaning_of i)
+lawful i limits = record {
+  reached = λ choice feasible. reached i choice limits feasible;
+  bounded = λ name v r. bounded i name v limits r;
+  passed_on = λ name v r some. passed_on i name v limits r some;
+  told_apart = λ name. told_apart i name limits;
+  ends = λ name le. ends i name limits le;
+  attained = attained i limits;
+  least_of_all = λ choice feasible. least_of_all i choice limits feasible;
+  counted = counted i limits;
+}

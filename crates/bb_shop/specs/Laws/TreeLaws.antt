@@ -5,7 +5,7 @@ use Rattle.std.specs.List.{IsDistinct}
 use Rattle.std.proofs.lemmas.Bool.{cases_lt}
 use Rattle.std.proofs.lemmas.List.{append_assoc, append-nil, length-append, nil_from_length}
 use Rattle.std.proofs.Math.Nat.{mul-le-mul, mul-add, mul_comm, pow-suc, pow-zero}
-use Rattle.bb_problem.specs.Tree.{below, total, names_from, names}
+use Rattle.bb_problem.specs.Tree.{below, total, nodes_from, node_count}
 use Rattle.inst_text.specs.Shop.{JobShop, operations, IsJobShop}
 use Rattle.bb_shop.specs.Dispatching.{opened, state_of, IsLeft, IsOrder}
 use Rattle.bb_shop.specs.Branching.{children_of, tree_of, powers, tree_size, order_cost, Reaches}
@@ -56,15 +56,15 @@ powers-suc : (n k : ℕ) → powers n (suc k) ≡ 1 + n * powers n k
 powers-suc n zero = omega (arith, pow-suc n 0, ap (λ p. p * n) (pow-zero n))
 powers-suc n (suc k) = omega (arith, powers-suc n k, pow-suc n (suc k), mul-add n (powers n k) (n ^ suc k), mul_comm n (n ^ suc k))
 
-names-within : (s : JobShop) (more : ℕ) (name : List ℕ) → names_from (tree_of s) more name ≤ powers (length s.rows) more
+names-within : (s : JobShop) (more : ℕ) (name : List ℕ) → nodes_from (tree_of s) more name ≤ powers (length s.rows) more
 names-within s zero name = omega arith
 names-within s (suc more) name =
-    let each = total-le (λ k. names_from (tree_of s) more (below name k)) (powers (length s.rows) more) (λ k. names-within s more (below name k)) (children_of s name) in
+    let each = total-le (λ k. nodes_from (tree_of s) more (below name k)) (powers (length s.rows) more) (λ k. names-within s more (below name k)) (children_of s name) in
     let few : length (children_of s name) * powers (length s.rows) more ≤ length s.rows * powers (length s.rows) more = mul-le-mul (length-children s name) (omega arith) in
     omega (arith, each, few, powers-suc (length s.rows) more)
 
 under_min : (a b n : ℕ) → min a b < b → n ≤ a → n ≤ min a b
 under_min a b n lt le = omega (arith, lt, le)
 
-pub counted : (s : JobShop) → IsJobShop s → tree_size s < 2 ^ 64 → names (tree_of s) ≤ tree_size s
-counted s shop small = under_min (powers (length s.rows) (operations s)) (2 ^ 64) (names (tree_of s)) small (names-within s (operations s) [])
+pub counted : (s : JobShop) → IsJobShop s → tree_size s < 2 ^ 64 → node_count (tree_of s) ≤ tree_size s
+counted s shop small = under_min (powers (length s.rows) (operations s)) (2 ^ 64) (node_count (tree_of s)) small (names-within s (operations s) [])
