@@ -9,8 +9,8 @@ use Rattle.inst_text.specs.Limits.{item_limit, weight_limit, capacity_limit, tot
 use Rattle.inst_text.specs.declared.knapsack.Item.{Item}
 use Rattle.inst_text.specs.Knapsack.{Instance, IsInstance, total_value, SpellsTwo, SpellItems, SpellKnapsack, IsKnapsackText, head_of, item_of, items_at, instance_at, knapsack_of}
 use Rattle.inst_text.proofs.TwoNumbers.{two_taken, two_found}
-use Rattle.inst_text.proofs.OneByOne.{EachReads, front_then, lines_taken, lines_found}
-use Rattle.inst_text.proofs.Readers.{Front, IsReader, whole_taken, whole_found}
+use Rattle.inst_text.proofs.OneByOne.{EachReads, prefix_then, lines_taken, lines_found}
+use Rattle.inst_text.proofs.Readers.{Prefix, IsReader, whole_taken, whole_found}
 
 -- the first line
 
@@ -96,7 +96,7 @@ instance_fits text head items e f =
     let is = items_are total_limit ts.lines items.value ts.each in
     record { count = omega (arith, h.count, ts.count); capacity = h.capacity; weights = is.weights; values = is.values }
 
-instance_taken : (text : Text) (x : Read Instance Text) → instance_at text ≡ Ok x → Front MeansInstance text x
+instance_taken : (text : Text) (x : Read Instance Text) → instance_at text ≡ Ok x → Prefix MeansInstance text x
 unfolding instance_at
 instance_taken text x e =
     let p = bind_ok (line_at head_of text) (λ head. items_at head.value.0 total_limit head.rest >>= λ items. Ok (record { value = record { capacity = head.value.1; items = items.value }; rest = items.rest })) x e in
@@ -106,10 +106,10 @@ instance_taken text x e =
     let ts = lines_taken item_of less p.0.value.0 total_limit p.0.rest q.0 q.1 in
     let is = items_are total_limit ts.lines q.0.value ts.each in
     let made : Read Instance Text = record { value = record { capacity = p.0.value.1; items = q.0.value }; rest = q.0.rest } in
-    subst (λ (y : Read Instance Text). Front MeansInstance text y) (ok_is made x q.2)
+    subst (λ (y : Read Instance Text). Prefix MeansInstance text y) (ok_is made x q.2)
     (record {
       lines = l.line ∷ ts.lines;
-      first = front_then l.line text.lines p.0.rest.lines ts.lines q.0.rest.lines l.first ts.first;
+      first = prefix_then l.line text.lines p.0.rest.lines ts.lines q.0.rest.lines l.first ts.first;
       means = record { spell = (subst (λ k. SpellsTwo l.line.words k p.0.value.1) (sym ts.count) h.spells, is.spell); limits = instance_fits text p.0 q.0 p.1 q.1 };
     })
 

@@ -54,16 +54,16 @@ numbered-append n (x ∷ xs) ys =
 pub text_behind : {A B : Type 0} (First : List Line → A → Type 0) (Second : List Line → B → Type 0) (bytes : List ℕ) (ks : List (List (List ℕ))) (a : A) (b : B) (most : ℕ)
     → First (text_of (bytes ++ 10 ∷ [])).lines a → Writes Second ks b most → Follow First Second (text_of (bytes ++ 10 ∷ lines_text ks)).lines a b
 text_behind First Second bytes ks a b most first w =
-    let front = lines (bytes ++ 10 ∷ []) in
-    let next : ℕ = 1 + length front in
-    let back : numbered next (lines (lines_text ks)) ≡ lines_from next ks = ap (λ (t : Text). t.lines) (text_again next ks w.plain) in
+    let prefix = lines (bytes ++ 10 ∷ []) in
+    let next : ℕ = 1 + length prefix in
+    let suffix : numbered next (lines (lines_text ks)) ≡ lines_from next ks = ap (λ (t : Text). t.lines) (text_again next ks w.plain) in
     record {
-      front = numbered 1 front;
-      back = lines_from next ks;
+      prefix = numbered 1 prefix;
+      suffix = lines_from next ks;
       lines_are =
           ap (numbered 1) (lines_behind bytes (lines_text ks))
-          ∙ numbered-append 1 front (lines (lines_text ks))
-          ∙ ap (λ (t : List Line). numbered 1 front ++ t) back;
+          ∙ numbered-append 1 prefix (lines (lines_text ks))
+          ∙ ap (λ (t : List Line). numbered 1 prefix ++ t) suffix;
       first = first;
       second = w.means next;
     }

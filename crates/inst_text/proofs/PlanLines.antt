@@ -109,9 +109,9 @@ abbrev pub AreInTime : List ℕ → Type 0
 AreInTime row = AllByRecursion (λ (t : ℕ). t ≤ total_limit) row
 
 record StartsTaken (n : ℕ) (words : Words) (x : Read (List ℕ) Words) : Type 0 where
-  front : Words
-  first : words ≡ front ++ x.rest
-  spell : SpellNumbers front x.value
+  prefix : Words
+  first : words ≡ prefix ++ x.rest
+  spell : SpellNumbers prefix x.value
   count : length x.value ≡ n
   limits : AreInTime x.value
 
@@ -119,7 +119,7 @@ starts_taken : (n : ℕ) (words : Words) (x : Read (List ℕ) Words) → starts_
 unfolding several
 starts_taken zero words x e =
     subst (λ (y : Read (List ℕ) Words). StartsTaken 0 words y) (ok_is (record { value = []; rest = words }) x e)
-    (record { front = []; first = refl; spell = tt; count = refl; limits = tt })
+    (record { prefix = []; first = refl; spell = tt; count = refl; limits = tt })
 starts_taken (suc n) words x e =
     let p = bind_ok (number_at 0 total_limit words) (λ t. before t.value (starts_on n t.rest)) x e in
     let q = bind_ok (starts_on n p.0.rest) (λ ts. Ok (record { value = p.0.value ∷ ts.value; rest = ts.rest })) x p.2 in
@@ -127,7 +127,7 @@ starts_taken (suc n) words x e =
     let vs = starts_taken n p.0.rest q.0 q.1 in
     let made : Read (List ℕ) Words = record { value = p.0.value ∷ q.0.value; rest = q.0.rest } in
     subst (λ (y : Read (List ℕ) Words). StartsTaken (suc n) words y) (ok_is made x q.2)
-    (record { front = v.word ∷ vs.front; first = v.first ∙ ap (λ (t : Words). v.word ∷ t) vs.first; spell = (v.spells, vs.spell); count = ap suc vs.count; limits = (v.below, vs.limits) })
+    (record { prefix = v.word ∷ vs.prefix; first = v.first ∙ ap (λ (t : Words). v.word ∷ t) vs.first; spell = (v.spells, vs.spell); count = ap suc vs.count; limits = (v.below, vs.limits) })
 
 starts_found : (words : Words) (row : List ℕ) → SpellNumbers words row → AreInTime row → starts_on (length row) words ≡ Ok (record { value = row; rest = [] })
 unfolding several
@@ -148,7 +148,7 @@ start_row_taken n words row e =
     let p = bind_ok (starts_on n words) (λ row. at_line_end row.rest >>= λ end. Ok row.value) row e in
     let z = bind_ok (at_line_end p.0.rest) (λ end. Ok p.0.value) row p.2 in
     let t = starts_taken n words p.0 p.1 in
-    let whole : t.front ≡ words = sym (t.first ∙ ap (λ (r : Words). t.front ++ r) (line_ends p.0.rest z.0 z.1) ∙ append-nil t.front) in
+    let whole : t.prefix ≡ words = sym (t.first ∙ ap (λ (r : Words). t.prefix ++ r) (line_ends p.0.rest z.0 z.1) ∙ append-nil t.prefix) in
     subst (λ (r : List ℕ). StartRowTaken n words r) (ok_is p.0.value row z.2)
     (record { spell = subst (λ (ws : Words). SpellNumbers ws p.0.value) whole t.spell; count = t.count; limits = t.limits })
 

@@ -11,8 +11,8 @@ use Rattle.inst_text.specs.Several.{both}
 use Rattle.inst_text.specs.Knapsack.{Instance, AreNumbers, instance_at}
 use Rattle.inst_text.specs.Shop.{JobShop, AreStarts, shop_at}
 use Rattle.inst_text.specs.Plans.{stated_of, choice_of, start_rows_at, choice_at, starts_at, knapsack_plan_of, shop_plan_of, SpellChoice, SpellStarts, IsKnapsackPlanText, IsShopPlanText}
-use Rattle.inst_text.proofs.OneByOne.{front_then, lines_taken, lines_found}
-use Rattle.inst_text.proofs.Readers.{Front, IsReader, MeansBoth, both_read, whole_taken, whole_found}
+use Rattle.inst_text.proofs.OneByOne.{prefix_then, lines_taken, lines_found}
+use Rattle.inst_text.proofs.Readers.{Prefix, IsReader, MeansBoth, both_read, whole_taken, whole_found}
 use Rattle.inst_text.proofs.KnapsackText.{MeansInstance, instance_read}
 use Rattle.inst_text.proofs.ShopText.{MeansShop, shop_read}
 use Rattle.inst_text.proofs.PlanLines.{stated_taken, stated_found, choice_taken, choice_found, row_reader, same_state, start_rows_are, start_rows_read}
@@ -25,7 +25,7 @@ pub record MeansChoice (n : ℕ) (lines : List Line) (c : Claimed (List ℕ)) : 
   pub stated : c.stated ≤ stated_limit
   pub shape : AreNumbers 0 n c.plan
 
-choice_at_taken : (n : ℕ) (text : Text) (x : Read (Claimed (List ℕ)) Text) → choice_at n text ≡ Ok x → Front (MeansChoice n) text x
+choice_at_taken : (n : ℕ) (text : Text) (x : Read (Claimed (List ℕ)) Text) → choice_at n text ≡ Ok x → Prefix (MeansChoice n) text x
 unfolding choice_at
 choice_at_taken n text x e =
     let a = bind_ok (line_at (stated_of (codes "value")) text) (λ value. line_at (choice_of n) value.rest >>= λ choice. Ok (record { value = record { stated = value.value; plan = choice.value }; rest = choice.rest })) x e in
@@ -35,7 +35,7 @@ choice_at_taken n text x e =
     let v = stated_taken (codes "value") k.line.words a.0.value k.value in
     let w = choice_taken n l.line.words b.0.value l.value in
     let made : Read (Claimed (List ℕ)) Text = record { value = record { stated = a.0.value; plan = b.0.value }; rest = b.0.rest } in
-    subst (λ (y : Read (Claimed (List ℕ)) Text). Front (MeansChoice n) text y) (ok_is made x b.2)
+    subst (λ (y : Read (Claimed (List ℕ)) Text). Prefix (MeansChoice n) text y) (ok_is made x b.2)
     (record {
       lines = k.line ∷ l.line ∷ [];
       first = k.first ∙ ap (λ (t : List Line). k.line ∷ t) l.first;
@@ -72,7 +72,7 @@ knapsack_plan_is_spelled bytes v e =
     let m = w.means in
     record {
       size = w.size;
-      lines = record { front = m.front; back = m.back; lines_are = m.lines_are; first = m.first.spell; second = m.second.spell };
+      lines = record { prefix = m.prefix; suffix = m.suffix; lines_are = m.lines_are; first = m.first.spell; second = m.second.spell };
       limits = m.first.limits;
       stated = m.second.stated;
       shape = m.second.shape;
@@ -85,7 +85,7 @@ knapsack_plan_is_read bytes i c is =
     whole_found (both instance_at (λ i. choice_at (length i.items))) KnapsackPlan knapsack_plan_read bytes (i, c)
     (record {
       size = is.size;
-      means = record { front = l.front; back = l.back; lines_are = l.lines_are; first = record { spell = l.first; limits = is.limits }; second = record { spell = l.second; stated = is.stated; shape = is.shape } };
+      means = record { prefix = l.prefix; suffix = l.suffix; lines_are = l.lines_are; first = record { spell = l.first; limits = is.limits }; second = record { spell = l.second; stated = is.stated; shape = is.shape } };
     })
 
 -- so the choice is one among all items that there may be
@@ -108,7 +108,7 @@ pub record MeansStarts (jobs n : ℕ) (lines : List Line) (c : Claimed (List (Li
   pub steps : AllByRecursion (λ (row : List ℕ). length row ≡ n) c.plan
   pub limits : AreStarts c.plan
 
-starts_at_taken : (jobs n : ℕ) (text : Text) (x : Read (Claimed (List (List ℕ))) Text) → starts_at jobs n text ≡ Ok x → Front (MeansStarts jobs n) text x
+starts_at_taken : (jobs n : ℕ) (text : Text) (x : Read (Claimed (List (List ℕ))) Text) → starts_at jobs n text ≡ Ok x → Prefix (MeansStarts jobs n) text x
 unfolding starts_at
 starts_at_taken jobs n text x e =
     let a = bind_ok (line_at (stated_of (codes "makespan")) text) (λ makespan. start_rows_at jobs n makespan.rest >>= λ rows. Ok (record { value = record { stated = makespan.value; plan = rows.value }; rest = rows.rest })) x e in
@@ -118,10 +118,10 @@ starts_at_taken jobs n text x e =
     let ls = lines_taken (row_reader n) same_state jobs tt a.0.rest b.0 b.1 in
     let rows = start_rows_are n ls.lines b.0.value ls.each in
     let made : Read (Claimed (List (List ℕ))) Text = record { value = record { stated = a.0.value; plan = b.0.value }; rest = b.0.rest } in
-    subst (λ (y : Read (Claimed (List (List ℕ))) Text). Front (MeansStarts jobs n) text y) (ok_is made x b.2)
+    subst (λ (y : Read (Claimed (List (List ℕ))) Text). Prefix (MeansStarts jobs n) text y) (ok_is made x b.2)
     (record {
       lines = k.line ∷ ls.lines;
-      first = front_then k.line text.lines a.0.rest.lines ls.lines b.0.rest.lines k.first ls.first;
+      first = prefix_then k.line text.lines a.0.rest.lines ls.lines b.0.rest.lines k.first ls.first;
       means = record { spell = (v.spells, rows.spell); stated = v.limit; jobs_are = ls.count; steps = rows.steps; limits = rows.limits };
     })
 
@@ -159,7 +159,7 @@ shop_plan_is_spelled bytes v e =
     let p = m.second in
     record {
       size = w.size;
-      lines = record { front = m.front; back = m.back; lines_are = m.lines_are; first = m.first.spell; second = p.spell };
+      lines = record { prefix = m.prefix; suffix = m.suffix; lines_are = m.lines_are; first = m.first.spell; second = p.spell };
       limits = m.first.limits;
       stated = p.stated;
       shape = record { jobs = p.jobs_are; steps = p.steps; limits = p.limits };
@@ -175,8 +175,8 @@ shop_plan_is_read bytes s c is =
       size = is.size;
       means =
           record {
-            front = l.front;
-            back = l.back;
+            prefix = l.prefix;
+            suffix = l.suffix;
             lines_are = l.lines_are;
             first = record { spell = l.first; limits = is.limits };
             second = record { spell = l.second; stated = is.stated; jobs_are = h.jobs; steps = h.steps; limits = h.limits };

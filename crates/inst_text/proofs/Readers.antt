@@ -12,27 +12,27 @@ use Rattle.pq_io.proofs.Binds.{ok_is, bind_ok, guard_ok}
 use Rattle.pq_io.proofs.Taken.{text_ends, text_end_found}
 use Rattle.inst_text.specs.Several.{both, text_within, whole}
 
--- lines in front of a text mean what was read
-pub record Front {A : Type 0} (Means : List Line → A → Type 0) (text : Text) (x : Read A Text) : Type 0 where
+-- the first lines of a text mean what was read
+pub record Prefix {A : Type 0} (Means : List Line → A → Type 0) (text : Text) (x : Read A Text) : Type 0 where
   pub lines : List Line
   pub first : text.lines ≡ lines ++ x.rest.lines
   pub means : Means lines x.value
 
--- What is read stands in front as lines that mean it, and what lines in front mean is read.
+-- What is read stands first as lines that mean it, and what the first lines mean is read.
 pub record IsReader {A : Type 0} (read : Text → Result (Read A Text) BadInput) (Means : List Line → A → Type 0) : Type 0 where
-  pub taken : (text : Text) (x : Read A Text) → read text ≡ Ok x → Front Means text x
+  pub taken : (text : Text) (x : Read A Text) → read text ≡ Ok x → Prefix Means text x
   pub found : (lines rest : List Line) (end : ℕ) (a : A) → Means lines a → read (record { lines = lines ++ rest; end = end }) ≡ Ok (record { value = a; rest = record { lines = rest; end = end } })
 
 -- a pair, whose second part means what it means for the first
 pub record MeansBoth {A B : Type 0} (First : List Line → A → Type 0) (Second : A → List Line → B → Type 0) (lines : List Line) (v : A × B) : Type 0 where
-  pub front : List Line
-  pub back : List Line
-  pub lines_are : lines ≡ front ++ back
-  pub first : First front v.0
-  pub second : Second v.0 back v.1
+  pub prefix : List Line
+  pub suffix : List Line
+  pub lines_are : lines ≡ prefix ++ suffix
+  pub first : First prefix v.0
+  pub second : Second v.0 suffix v.1
 
 both_taken : {A B : Type 0} (p : Text → Result (Read A Text) BadInput) (q : A → Text → Result (Read B Text) BadInput) (First : List Line → A → Type 0) (Second : A → List Line → B → Type 0)
-    → IsReader p First → ((lines : List Line) (a : A) → First lines a → IsReader (q a) (Second a)) → (text : Text) (x : Read (A × B) Text) → both p q text ≡ Ok x → Front (MeansBoth First Second) text x
+    → IsReader p First → ((lines : List Line) (a : A) → First lines a → IsReader (q a) (Second a)) → (text : Text) (x : Read (A × B) Text) → both p q text ≡ Ok x → Prefix (MeansBoth First Second) text x
 unfolding both
 both_taken {A = A} {B = B} p q First Second f s text x e =
     let a = bind_ok (p text) (λ a. q a.value a.rest >>= λ b. Ok (record { value = (a.value, b.value); rest = b.rest })) x e in
@@ -40,11 +40,11 @@ both_taken {A = A} {B = B} p q First Second f s text x e =
     let l = f.taken text a.0 a.1 in
     let m = (s l.lines a.0.value l.means).taken a.0.rest b.0 b.1 in
     let made : Read (A × B) Text = record { value = (a.0.value, b.0.value); rest = b.0.rest } in
-    subst (λ (y : Read (A × B) Text). Front (MeansBoth First Second) text y) (ok_is made x b.2)
+    subst (λ (y : Read (A × B) Text). Prefix (MeansBoth First Second) text y) (ok_is made x b.2)
     (record {
       lines = l.lines ++ m.lines;
       first = l.first ∙ ap (λ (t : List Line). l.lines ++ t) m.first ∙ sym (append_assoc l.lines m.lines b.0.rest.lines);
-      means = record { front = l.lines; back = m.lines; lines_are = refl; first = l.means; second = m.means };
+      means = record { prefix = l.lines; suffix = m.lines; lines_are = refl; first = l.means; second = m.means };
     })
 
 both_found : {A B : Type 0} (p : Text → Result (Read A Text) BadInput) (q : A → Text → Result (Read B Text) BadInput) (First : List Line → A → Type 0) (Second : A → List Line → B → Type 0)
@@ -52,8 +52,8 @@ both_found : {A B : Type 0} (p : Text → Result (Read A Text) BadInput) (q : A 
     → both p q (record { lines = lines ++ rest; end = end }) ≡ Ok (record { value = v; rest = record { lines = rest; end = end } })
 unfolding both
 both_found p q First Second f s lines rest end v m =
-    let split : lines ++ rest ≡ m.front ++ (m.back ++ rest) = ap (λ (t : List Line). t ++ rest) m.lines_are ∙ append_assoc m.front m.back rest in
-    rw (split, f.found m.front (m.back ++ rest) end v.0 m.first, (s m.front v.0 m.first).found m.back rest end v.1 m.second) refl
+    let split : lines ++ rest ≡ m.prefix ++ (m.suffix ++ rest) = ap (λ (t : List Line). t ++ rest) m.lines_are ∙ append_assoc m.prefix m.suffix rest in
+    rw (split, f.found m.prefix (m.suffix ++ rest) end v.0 m.first, (s m.prefix v.0 m.first).found m.suffix rest end v.1 m.second) refl
 
 pub both_read : {A B : Type 0} (p : Text → Result (Read A Text) BadInput) (q : A → Text → Result (Read B Text) BadInput) (First : List Line → A → Type 0) (Second : A → List Line → B → Type 0)
     → IsReader p First → ((lines : List Line) (a : A) → First lines a → IsReader (q a) (Second a)) → IsReader (both p q) (MeansBoth First Second)

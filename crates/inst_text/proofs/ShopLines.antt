@@ -93,9 +93,9 @@ operation_found machines room v w rest o p q named fits =
 -- the line of a job
 
 record OperationsTaken (n machines room : ℕ) (words : Words) (x : Read (List Operation) Words) : Type 0 where
-  front : Words
-  first : words ≡ front ++ x.rest
-  spell : SpellRow front x.value
+  prefix : Words
+  first : words ≡ prefix ++ x.rest
+  spell : SpellRow prefix x.value
   count : length x.value ≡ n
   named : AreNamed machines x.value
   times : row_time x.value ≤ room
@@ -104,7 +104,7 @@ operations_taken : (n machines room : ℕ) (words : Words) (x : Read (List Opera
 unfolding several
 operations_taken zero machines room words x some e =
     subst (λ (y : Read (List Operation) Words). OperationsTaken 0 machines room words y) (ok_is (record { value = []; rest = words }) x e)
-    (record { front = []; first = refl; spell = tt; count = refl; named = tt; times = omega arith })
+    (record { prefix = []; first = refl; spell = tt; count = refl; named = tt; times = omega arith })
 operations_taken (suc n) machines room words x some e =
     let p = bind_ok (operation_at machines room words) (λ o. before o.value (operations_at n machines (room - o.value.time) o.rest)) x e in
     let o = p.0.value in
@@ -114,7 +114,7 @@ operations_taken (suc n) machines room words x some e =
     let made : Read (List Operation) Words = record { value = o ∷ q.0.value; rest = q.0.rest } in
     subst (λ (y : Read (List Operation) Words). OperationsTaken (suc n) machines room words y) (ok_is made x q.2)
     (record {
-      front = t.machine ∷ t.time ∷ ts.front;
+      prefix = t.machine ∷ t.time ∷ ts.prefix;
       first = t.first ∙ ap (λ (rest : Words). t.machine ∷ t.time ∷ rest) ts.first;
       spell = (t.spells_machine, t.spells_time, ts.spell);
       count = ap suc ts.count;
@@ -148,7 +148,7 @@ row_taken machines room words row some e =
     let p = bind_ok (operations_at machines machines room words) (λ row. at_line_end row.rest >>= λ end. Ok row.value) row e in
     let z = bind_ok (at_line_end p.0.rest) (λ end. Ok p.0.value) row p.2 in
     let t = operations_taken machines machines room words p.0 some p.1 in
-    let whole : t.front ≡ words = sym (t.first ∙ ap (λ (r : Words). t.front ++ r) (line_ends p.0.rest z.0 z.1) ∙ append-nil t.front) in
+    let whole : t.prefix ≡ words = sym (t.first ∙ ap (λ (r : Words). t.prefix ++ r) (line_ends p.0.rest z.0 z.1) ∙ append-nil t.prefix) in
     subst (λ (r : List Operation). RowTaken machines room words r) (ok_is p.0.value row z.2)
     (record { spell = subst (λ (ws : Words). SpellRow ws p.0.value) whole t.spell; count = t.count; named = t.named; times = t.times })
 

@@ -4,12 +4,12 @@ use Rattle.pq_io.specs.Lines.{Line, Text}
 use Rattle.pq_io.specs.Reading.{◌>>=◌, Read, line_at}
 use Rattle.pq_io.proofs.Binds.{ok_is, bind_ok}
 use Rattle.pq_io.proofs.Taken.{line_taken, line_found}
-use Rattle.inst_text.specs.Limits.{machine_limit, operation_limit, total_limit}
+use Rattle.inst_text.specs.Limits.{operation_limit, total_limit}
 use Rattle.inst_text.specs.declared.shop.Operation.{Operation}
 use Rattle.inst_text.specs.Knapsack.{SpellsTwo}
-use Rattle.inst_text.specs.Shop.{JobShop, IsJobShop, SpellShop, IsShopText, shop_head_of, row_of, rows_at, shop_at, shop_of}
-use Rattle.inst_text.proofs.OneByOne.{front_then, lines_taken, lines_found}
-use Rattle.inst_text.proofs.Readers.{Front, IsReader, whole_taken, whole_found}
+use Rattle.inst_text.specs.Shop.{JobShop, IsJobShop, IsMachineCount, SpellShop, IsShopText, shop_head_of, row_of, rows_at, shop_at, shop_of}
+use Rattle.inst_text.proofs.OneByOne.{prefix_then, lines_taken, lines_found}
+use Rattle.inst_text.proofs.Readers.{Prefix, IsReader, whole_taken, whole_found}
 use Rattle.inst_text.proofs.ShopLines.{shop_head_taken, shop_head_found, less_row, rows_are, rows_read}
 
 -- lines that spell a shop within the limits
@@ -18,15 +18,11 @@ pub record MeansShop (lines : List Line) (s : JobShop) : Type 0 where
   pub limits : IsJobShop s
 
 -- how many machines a head can name
-pub record FewMachines (head : ℕ × ℕ) : Type 0 where
-  pub some : 1 ≤ head.1
-  pub few : head.1 ≤ machine_limit
-
-pub machines_few : (text : Text) (head : Read (ℕ × ℕ) Text) → line_at shop_head_of text ≡ Ok head → FewMachines head.value
+pub machines_few : (text : Text) (head : Read (ℕ × ℕ) Text) → line_at shop_head_of text ≡ Ok head → IsMachineCount head.value.1
 machines_few text head e =
     let l = line_taken shop_head_of text head e in
     let h = shop_head_taken l.line.words head.value l.value in
-    record { some = h.some_machine; few = h.machines }
+    (h.some_machine, h.machines)
 
 -- a head and rows make a shop
 pub shop_fits : (text : Text) (head : Read (ℕ × ℕ) Text) (rows : Read (List (List Operation)) Text) → line_at shop_head_of text ≡ Ok head → rows_at head.value.0 head.value.1 total_limit head.rest ≡ Ok rows
@@ -47,7 +43,7 @@ shop_fits text head rows e f =
       times = rs.times;
     }
 
-shop_taken : (text : Text) (x : Read JobShop Text) → shop_at text ≡ Ok x → Front MeansShop text x
+shop_taken : (text : Text) (x : Read JobShop Text) → shop_at text ≡ Ok x → Prefix MeansShop text x
 unfolding shop_at
 shop_taken text x e =
     let p = bind_ok (line_at shop_head_of text) (λ head. rows_at head.value.0 head.value.1 total_limit head.rest >>= λ rows. Ok (record { value = record { machines = head.value.1; rows = rows.value }; rest = rows.rest })) x e in
@@ -57,10 +53,10 @@ shop_taken text x e =
     let ts = lines_taken (row_of p.0.value.1) less_row p.0.value.0 total_limit p.0.rest q.0 q.1 in
     let rs = rows_are p.0.value.1 total_limit ts.lines q.0.value h.some_machine ts.each in
     let made : Read JobShop Text = record { value = record { machines = p.0.value.1; rows = q.0.value }; rest = q.0.rest } in
-    subst (λ (y : Read JobShop Text). Front MeansShop text y) (ok_is made x q.2)
+    subst (λ (y : Read JobShop Text). Prefix MeansShop text y) (ok_is made x q.2)
     (record {
       lines = l.line ∷ ts.lines;
-      first = front_then l.line text.lines p.0.rest.lines ts.lines q.0.rest.lines l.first ts.first;
+      first = prefix_then l.line text.lines p.0.rest.lines ts.lines q.0.rest.lines l.first ts.first;
       means = record { spell = (subst (λ k. SpellsTwo l.line.words k p.0.value.1) (sym ts.count) h.spells, rs.spell); limits = shop_fits text p.0 q.0 p.1 q.1 };
     })
 

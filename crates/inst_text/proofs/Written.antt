@@ -85,7 +85,7 @@ pub two_texts : {A B : Type 0} (First : List Line → A → Type 0) (Second : Li
 two_texts First Second ls ks a b m n v w =
     let whole : (text_of (lines_text ls ++ lines_text ks)).lines ≡ lines_from 1 (ls ++ ks) =
     ap (λ (t : List ℕ). (text_of t).lines) (sym (lines_text-append ls ks)) ∙ lines_again (ls ++ ks) (plain-append ls ks v.plain w.plain) in
-    record { front = lines_from 1 ls; back = lines_from (1 + length ls) ks; lines_are = whole ∙ lines_from-append 1 ls ks; first = v.means 1; second = w.means (1 + length ls) }
+    record { prefix = lines_from 1 ls; suffix = lines_from (1 + length ls) ks; lines_are = whole ∙ lines_from-append 1 ls ks; first = v.means 1; second = w.means (1 + length ls) }
 
 pub two_short : {A B : Type 0} (First : List Line → A → Type 0) (Second : List Line → B → Type 0) (ls ks : List Words) (a : A) (b : B) (m n : ℕ) → Writes First ls a m → Writes Second ks b n → m + n ≤ 67108864
     → length (lines_text ls ++ lines_text ks) ≤ 67108864

@@ -8,7 +8,7 @@ use Rattle.pq_io.specs.Lines.{Line, Text, text_of}
 use Rattle.pq_io.specs.Reading.{◌>>=◌, Read, Spells, number_at, number_of, word_at, after_word, at_line_end, line_at}
 use Rattle.inst_text.specs.declared.plan.Claimed.{Claimed}
 use Rattle.inst_text.specs.Limits.{stated_limit, total_limit}
-use Rattle.inst_text.specs.Several.{several, told, EachLine, both, Follow, whole}
+use Rattle.inst_text.specs.Several.{several, with_line, EachLine, both, Follow, whole}
 use Rattle.inst_text.specs.Knapsack.{Instance, IsInstance, AreNumbers, SpellKnapsack, instance_at}
 use Rattle.inst_text.specs.Shop.{JobShop, IsJobShop, AreStarts, SpellShop, shop_at}
 
@@ -59,8 +59,9 @@ abbrev pub starts_on : ℕ → List (List ℕ) → Result (Read (List ℕ) (List
 starts_on n words = several (λ (s : Unit {0}). number_at 0 total_limit) (λ s start. s) n tt words
 
 -- the same, with faults on this line
-abbrev pub told_starts_on : ℕ → ℕ → List (List ℕ) → Result (Read (List ℕ) (List (List ℕ))) BadInput
-told_starts_on line n words = several (told line (λ (s : Unit {0}). number_at 0 total_limit)) (λ s start. s) n tt words
+abbrev pub line_starts_on : ℕ → ℕ → List (List ℕ) → Result (Read (List ℕ) (List (List ℕ))) BadInput
+line_starts_on line n words =
+    several (with_line line (λ (s : Unit {0}). number_at 0 total_limit)) (λ s start. s) n tt words
 
 -- The line of a job's start times, n of them.
 unfoldable pub start_row_of : ℕ → List (List ℕ) → Result (List ℕ) Cause

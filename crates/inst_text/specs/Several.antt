@@ -7,16 +7,17 @@ use Rattle.pq_io.specs.Lines.{Line, Text, text_of}
 use Rattle.pq_io.specs.Reading.{◌>>=◌, Read, on_line, at_text_end}
 
 -- n readings one after the other: each is made in a state, and what it read says in which state the next one is made.
-unfoldable pub several : {S A Rest E : Type 0} → (S → Rest → Result (Read A Rest) E) → (S → A → S) → ℕ → S → Rest → Result (Read (List A) Rest) E
+unfoldable pub several : {S A Rest E : Type 0} → (S → Rest → Result (Read A Rest) E) → (S → A → S)
+    → ℕ → S → Rest → Result (Read (List A) Rest) E
 several read next zero s rest = Ok (record { value = []; rest = rest })
 several read next (suc n) s rest = do
   x ← read s rest
   xs ← several read next n (next s x.value) x.rest
   Ok (record { value = x.value ∷ xs.value; rest = xs.rest })
 
--- a reading of words, whose faults are told with the number of the line
-abbrev pub told : {S A : Type 0} → ℕ → (S → List (List ℕ) → Result A Cause) → S → List (List ℕ) → Result A BadInput
-told line read s words = on_line line (read s words)
+-- a reading of words, whose faults carry the number of the line
+abbrev pub with_line : {S A : Type 0} → ℕ → (S → List (List ℕ) → Result A Cause) → S → List (List ℕ) → Result A BadInput
+with_line line read s words = on_line line (read s words)
 
 -- Each line means the value at its place.
 abbrev pub EachLine : {A : Type 0} → (List (List ℕ) → A → Type 0) → List Line → List A → Type 0
@@ -25,19 +26,21 @@ EachLine Means (l ∷ ls) (x ∷ xs) = Means l.words x × EachLine Means ls xs
 EachLine Means ls xs = ⊥
 
 -- one reading, and behind it another, which knows what the first one read
-unfoldable pub both : {A B : Type 0} → (Text → Result (Read A Text) BadInput) → (A → Text → Result (Read B Text) BadInput) → Text → Result (Read (A × B) Text) BadInput
+unfoldable pub both : {A B : Type 0} → (Text → Result (Read A Text) BadInput)
+    → (A → Text → Result (Read B Text) BadInput) → Text → Result (Read (A × B) Text) BadInput
 both first second text = do
   a ← first text
   b ← second a.value a.rest
   Ok (record { value = (a.value, b.value); rest = b.rest })
 
 -- Some lines mean the first, and the lines behind them the second.
-pub record Follow {A B : Type 0} (First : List Line → A → Type 0) (Second : List Line → B → Type 0) (lines : List Line) (a : A) (b : B) : Type 0 where
-  pub front : List Line
-  pub back : List Line
-  pub lines_are : lines ≡ front ++ back
-  pub first : First front a
-  pub second : Second back b
+pub record Follow {A B : Type 0} (First : List Line → A → Type 0) (Second : List Line → B → Type 0)
+    (lines : List Line) (a : A) (b : B) : Type 0 where
+  pub prefix : List Line
+  pub suffix : List Line
+  pub lines_are : lines ≡ prefix ++ suffix
+  pub first : First prefix a
+  pub second : Second suffix b
 
 -- the text of these bytes, of which there are at most 67,108,864
 abbrev pub text_within : List ℕ → Result Text BadInput

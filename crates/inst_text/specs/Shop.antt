@@ -1,5 +1,6 @@
 -- A job shop and start times of its operations, their limits, and their texts.
-use Rattle.std.specs.Prelude.{ℕ, ◌≡◌, ◌+◌, ◌-◌, ◌*◌, ◌≤◌, ◌<◌, nat_le, if◌then◌else◌, List, [], ◌∷◌, length, map, codes, Result, Ok, Err}
+use Rattle.std.specs.Prelude.{ℕ, ◌≡◌, ◌+◌, ◌-◌, ◌*◌, ◌≤◌, ◌<◌, nat_le, if◌then◌else◌, List, [], ◌∷◌, length, map, codes}
+use Rattle.std.specs.Prelude.{Result, Ok, Err}
 use Rattle.std.specs.List.{AllByRecursion}
 use Rattle.std.specs.Fmt.{decimal}
 use Rattle.pq_io.specs.declared.text.fault.Cause.{Cause}
@@ -10,7 +11,7 @@ use Rattle.pq_io.specs.Reading.{◌>>=◌, Read, Spells, number_at, at_line_end,
 use Rattle.pq_io.specs.Writing.{lines_text}
 use Rattle.inst_text.specs.declared.shop.Operation.{Operation}
 use Rattle.inst_text.specs.Limits.{job_limit, machine_limit, operation_limit, total_limit}
-use Rattle.inst_text.specs.Several.{several, told, EachLine, whole}
+use Rattle.inst_text.specs.Several.{several, with_line, EachLine, whole}
 use Rattle.inst_text.specs.Knapsack.{SpellsTwo, two_words}
 
 -- a job shop without where it lies in memory: how many machines it has, and the operations of each job
@@ -40,7 +41,8 @@ pub record IsJobShop (s : JobShop) : Type 0 where
   pub machines : s.machines ≤ machine_limit
   pub size : operations s ≤ operation_limit
   pub steps : AllByRecursion (λ (row : List Operation). length row ≡ s.machines) s.rows
-  pub named : AllByRecursion (λ (row : List Operation). AllByRecursion (λ (o : Operation). o.machine < s.machines) row) s.rows
+  pub named : AllByRecursion (λ (row : List Operation).
+      AllByRecursion (λ (o : Operation). o.machine < s.machines) row) s.rows
   pub times : rows_time s.rows ≤ total_limit
 
 -- rows of start times, each within its limit
@@ -55,6 +57,10 @@ shop_head_of words = do
   end ← if nat_le (jobs.value * machines.value) operation_limit then at_line_end machines.rest else Err Range
   Ok (jobs.value, machines.value)
 
+-- a number of machines that a shop may have
+abbrev pub IsMachineCount : ℕ → Type 0
+IsMachineCount machines = (1 ≤ machines) × (machines ≤ machine_limit)
+
 -- An operation on one of so many machines, whose time may be at most room.
 unfoldable pub operation_at : ℕ → ℕ → List (List ℕ) → Result (Read Operation (List (List ℕ))) Cause
 operation_at machines room words = do
@@ -67,8 +73,9 @@ abbrev pub operations_at : ℕ → ℕ → ℕ → List (List ℕ) → Result (R
 operations_at n machines room words = several (operation_at machines) (λ r o. r - o.time) n room words
 
 -- the same, with faults on this line
-abbrev pub told_operations_at : ℕ → ℕ → ℕ → ℕ → List (List ℕ) → Result (Read (List Operation) (List (List ℕ))) BadInput
-told_operations_at line n machines room words = several (told line (operation_at machines)) (λ r o. r - o.time) n room words
+abbrev pub line_operations_at : ℕ → ℕ → ℕ → ℕ → List (List ℕ) → Result (Read (List Operation) (List (List ℕ))) BadInput
+line_operations_at line n machines room words =
+    several (with_line line (operation_at machines)) (λ r o. r - o.time) n room words
 
 -- The line of a job: an operation for each machine.
 unfoldable pub row_of : ℕ → ℕ → List (List ℕ) → Result (List Operation) Cause

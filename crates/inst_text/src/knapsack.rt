@@ -1,10 +1,11 @@
+//! Knapsacks and choices of their items.
+
 mod laws;
 mod reading;
 mod writing;
 
 pub use laws::{knapsack_texts_are_read, written_knapsacks_are_read};
-pub(crate) use reading::next_knapsack;
-pub use reading::read_knapsack;
+pub use reading::{next_knapsack, read_knapsack};
 use std::marker::Model;
 pub use writing::write_choice;
 

@@ -8,7 +8,7 @@ mod shop;
 mod size;
 
 pub use knapsack::{
-    Choice, Item, Items, knapsack_texts_are_read, read_knapsack, write_choice,
+    Choice, Item, Items, knapsack_texts_are_read, next_knapsack, read_knapsack, write_choice,
     written_knapsacks_are_read,
 };
 pub use limits::{
@@ -16,10 +16,11 @@ pub use limits::{
     OPERATION_LIMIT, STATED_LIMIT, TOTAL_LIMIT, WEIGHT_LIMIT,
 };
 pub use plan::{
-    Claimed, choices_are_read_behind, knapsack_plan_texts_are_read, read_plan_knapsack,
-    read_plan_shop, shop_plan_texts_are_read, starts_are_read_behind, written_choices_are_read,
-    written_starts_are_read,
+    Claimed, choices_are_read_behind, knapsack_plan_texts_are_read, next_choice,
+    read_plan_knapsack, read_plan_shop, shop_plan_texts_are_read, starts_are_read_behind,
+    written_choices_are_read, written_starts_are_read,
 };
 pub use shop::{
-    Jobs, Operation, Starts, read_shop, shop_texts_are_read, write_starts, written_shops_are_read,
+    Jobs, Operation, Starts, next_shop, read_shop, shop_texts_are_read, write_starts,
+    written_shops_are_read,
 };

@@ -1,9 +1,11 @@
+//! Plans that stand behind an instance, with the number that is stated for them.
+
 mod choices;
 mod laws;
 mod schedules;
 mod stated;
 
-pub use choices::read_plan_knapsack;
+pub use choices::{next_choice, read_plan_knapsack};
 pub use laws::{
     choices_are_read_behind, knapsack_plan_texts_are_read, shop_plan_texts_are_read,
     starts_are_read_behind, written_choices_are_read, written_starts_are_read,

@@ -1,10 +1,11 @@
+//! Job shops and start times of their operations.
+
 mod laws;
 mod reading;
 mod writing;
 
 pub use laws::{shop_texts_are_read, written_shops_are_read};
-pub(crate) use reading::next_shop;
-pub use reading::read_shop;
+pub use reading::{next_shop, read_shop};
 use std::marker::Model;
 pub use writing::write_starts;
 

@@ -1,9 +1,11 @@
+//! How long a text may be.
+
 ghost use Rattle.std.specs.Prelude.{◌≡◌};
 ghost use Rattle.inst_text.specs.Several.{text_within};
 
 use pq_io::{BadInput, Cause, TextReader};
 
-/// The most bytes that a text may have.
+// The most bytes that a text may have.
 const TEXT_LIMIT: usize = 67_108_864;
 
 /// The lines of a text, unless it is too long.

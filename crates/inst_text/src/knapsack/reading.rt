@@ -1,7 +1,10 @@
+//! Reading a knapsack.
+
 ghost use Rattle.std.specs.Prelude.{◌≡◌, ◌^◌, ◌<◌, IfOk, Ok};
 ghost use Rattle.pq_io.specs.Reading.{Leaves, Gives, GivesAndLeaves, line_at};
 ghost use Rattle.inst_text.specs.Limits.{total_limit};
-ghost use Rattle.inst_text.specs.Knapsack.{head_of, item_of, items_at, instance_at, knapsack_of, Instance, IsKnapsackText};
+ghost use Rattle.inst_text.specs.Knapsack.{Instance, IsKnapsackText, head_of, item_of, items_at, instance_at};
+ghost use Rattle.inst_text.specs.Knapsack.{knapsack_of};
 
 use crate::knapsack::{Item, Items};
 use crate::limits::{CAPACITY_LIMIT, ITEM_LIMIT, TOTAL_LIMIT, WEIGHT_LIMIT};
@@ -9,7 +12,7 @@ use crate::size::open_text;
 use pq_io::{BadInput, Cause, ReadRefusal, TextReader, WordReader, on_line};
 use std::alloc::Global;
 
-/// The number of items, and the capacity.
+// The number of items, and the capacity.
 #[tactic(auto, unfolding(crate::specs::Knapsack::head_of))]
 fn head(words: &mut WordReader<'_>) -> Result<(u64, u64), Cause>
     ensures { result ≡ head_of words.old.words }
@@ -20,7 +23,7 @@ fn head(words: &mut WordReader<'_>) -> Result<(u64, u64), Cause>
     Ok((count, capacity))
 }
 
-/// An item whose value is at most `room`.
+// An item whose value is at most `room`.
 #[tactic(auto, unfolding(crate::specs::Knapsack::item_of))]
 fn item(words: &mut WordReader<'_>, room: u64) -> Result<Item, Cause>
     requires { room < 2 ^ 32 }
@@ -35,7 +38,7 @@ fn item(words: &mut WordReader<'_>, room: u64) -> Result<Item, Cause>
     })
 }
 
-/// Takes the first line.
+// Takes the first line.
 #[tactic(auto, unfolding(pq_io::specs::Reading::line_at))]
 fn next_head(text: &mut TextReader<'_>) -> Result<(u64, u64), BadInput>
     ensures { Leaves (λ h. h) result text.new (line_at head_of text.old) }
@@ -45,7 +48,7 @@ fn next_head(text: &mut TextReader<'_>) -> Result<(u64, u64), BadInput>
     on_line(line, head(&mut words))
 }
 
-/// Takes the line of an item whose value is at most `room`.
+// Takes the line of an item whose value is at most `room`.
 #[tactic(auto, unfolding(pq_io::specs::Reading::line_at))]
 fn next_item(text: &mut TextReader<'_>, room: u64) -> Result<Item, BadInput>
     requires { room < 2 ^ 32 }
@@ -56,7 +59,7 @@ fn next_item(text: &mut TextReader<'_>, room: u64) -> Result<Item, BadInput>
     on_line(line, item(&mut words, room))
 }
 
-/// Takes the lines of this many items.
+// Takes the lines of this many items.
 fn next_items(
     alloc: Global,
     text: &mut TextReader<'_>,
@@ -74,9 +77,11 @@ fn next_items(
     Ok(items)
 }
 
-/// Takes the lines of an instance.
+/// Takes the lines of an instance: `n W`, and a line for each item.
+///
+/// Refuses with the first fault, after which nothing is promised of the lines that are left.
 #[tactic(auto, unfolding(crate::specs::Knapsack::instance_at))]
-pub(crate) fn next_knapsack(alloc: Global, text: &mut TextReader<'_>) -> Result<Items, ReadRefusal>
+pub fn next_knapsack(alloc: Global, text: &mut TextReader<'_>) -> Result<Items, ReadRefusal>
     ensures { GivesAndLeaves (λ i. i) result text.new (instance_at text.old) }
 {
     let (count, capacity) = next_head(text)?;
@@ -100,7 +105,7 @@ pub fn read_knapsack(alloc: Global, bytes: &[u8]) -> Result<Items, ReadRefusal>
     whole_knapsack(alloc, bytes)
 }
 
-/// What `read_knapsack` gives, read off its definition.
+// What `read_knapsack` gives, read off its definition.
 #[tactic(auto, unfolding(crate::specs::Knapsack::knapsack_of, crate::specs::Several::whole))]
 fn whole_knapsack(alloc: Global, bytes: &[u8]) -> Result<Items, ReadRefusal>
     ensures { Gives (λ i. i) result (knapsack_of bytes.now) }

@@ -1,3 +1,5 @@
+//! Writing a choice of items.
+
 ghost use Rattle.std.specs.Prelude.{◌≡◌, IfOk};
 ghost use Rattle.inst_text.specs.Knapsack.{choice_text};
 

@@ -1,9 +1,12 @@
+//! Reading a choice behind its knapsack.
+
 ghost use Rattle.std.specs.Prelude.{◌≡◌, ◌≤◌, IfOk, Ok, List, ℕ};
 ghost use Rattle.pq_io.specs.Reading.{Leaves, Gives, GivesAndLeaves, on_line, line_at};
 ghost use Rattle.inst_text.specs.declared.plan.Claimed.{Claimed};
 ghost use Rattle.inst_text.specs.Limits.{item_limit};
 ghost use Rattle.inst_text.specs.Knapsack.{Instance};
-ghost use Rattle.inst_text.specs.Plans.{item_number_of, item_number_at, item_numbers_of, choice_of, choice_at, knapsack_plan_of, IsKnapsackPlanText};
+ghost use Rattle.inst_text.specs.Plans.{item_number_of, item_number_at, item_numbers_of, choice_of, choice_at};
+ghost use Rattle.inst_text.specs.Plans.{IsKnapsackPlanText, knapsack_plan_of};
 
 use crate::knapsack::{Choice, Items, next_knapsack};
 use crate::plan::Claimed;
@@ -12,7 +15,7 @@ use crate::size::open_text;
 use pq_io::{BadInput, Cause, ReadRefusal, TextReader, WordReader, digits, on_line};
 use std::alloc::Global;
 
-/// The item number below `count`, and not below `low`, that the word spells.
+// The item number below `count`, and not below `low`, that the word spells.
 #[tactic(auto, unfolding(crate::specs::Plans::item_number_of))]
 fn item_number(word: &[u8], count: u64, low: u64) -> Result<u32, Cause>
     requires { count ≤ item_limit }
@@ -25,11 +28,12 @@ fn item_number(word: &[u8], count: u64, low: u64) -> Result<u32, Cause>
     Ok(number as u32)
 }
 
-/// Takes an item number, and tells the line where it is faulty.
+// Takes an item number, and tells the line where it is faulty.
 #[tactic(auto, unfolding(crate::specs::Plans::item_number_at))]
 fn next_number(words: &mut WordReader<'_>, count: u64, low: u64) -> Result<u32, BadInput>
     requires { count ≤ item_limit }
-    ensures exact { Leaves (λ n. n) result words.new.words (on_line words.old.number (item_number_at count low words.old.words)) }
+    ensures exact { Leaves (λ n. n) result words.new.words
+        (on_line words.old.number (item_number_at count low words.old.words)) }
     ensures line { words.new.number ≡ words.old.number }
 {
     let line = words.line();
@@ -37,14 +41,15 @@ fn next_number(words: &mut WordReader<'_>, count: u64, low: u64) -> Result<u32, 
     on_line(line, item_number(word, count, low))
 }
 
-/// The item numbers up to the end of the line, which rise, each below `count`.
+// The item numbers up to the end of the line, which rise, each below `count`.
 fn item_numbers(
     alloc: Global,
     words: &mut WordReader<'_>,
     count: u64,
 ) -> Result<Vec<u32>, ReadRefusal>
     requires { count ≤ item_limit }
-    ensures { Gives (λ numbers. numbers.items) result (on_line words.old.number (item_numbers_of count 0 words.old.words)) }
+    ensures { Gives (λ numbers. numbers.items) result
+        (on_line words.old.number (item_numbers_of count 0 words.old.words)) }
 {
     let mut numbers = Vec::new(alloc);
     let mut low = 0;
@@ -56,7 +61,7 @@ fn item_numbers(
     Ok(numbers)
 }
 
-/// Takes the line of a choice among this many items.
+// Takes the line of a choice among this many items.
 #[tactic(auto, unfolding(pq_io::specs::Reading::line_at, crate::specs::Plans::choice_of))]
 fn next_numbers(
     alloc: Global,
@@ -72,9 +77,11 @@ fn next_numbers(
     item_numbers(alloc, &mut words, count)
 }
 
-/// Takes the lines of a plan of a knapsack of this many items.
+/// Takes the lines of a plan of a knapsack of this many items: `value V`, and `items` with the item numbers.
+///
+/// Refuses with the first fault, after which nothing is promised of the lines that are left.
 #[tactic(auto, unfolding(crate::specs::Plans::choice_at))]
-fn next_choice(
+pub fn next_choice(
     alloc: Global,
     text: &mut TextReader<'_>,
     count: u64,
@@ -105,12 +112,13 @@ pub fn read_plan_knapsack(
     // What is read is spelled so.
     ensures spelled { IfOk result (λ r. IsKnapsackPlanText bytes.now r.0 r.1) }
     // What is spelled so is read, unless memory runs out.
-    ensures read { (i : Instance) (c : Claimed (List ℕ)) → IsKnapsackPlanText bytes.now i c → Gives (λ r. r) result (Ok (i, c)) }
+    ensures read { (i : Instance) (c : Claimed (List ℕ)) → IsKnapsackPlanText bytes.now i c
+        → Gives (λ r. r) result (Ok (i, c)) }
 {
     whole_plan(alloc, bytes)
 }
 
-/// What `read_plan_knapsack` gives, read off its definition.
+// What `read_plan_knapsack` gives, read off its definition.
 #[tactic(auto, unfolding(crate::specs::Plans::knapsack_plan_of, crate::specs::Several::whole, crate::specs::Several::both))]
 fn whole_plan(alloc: Global, bytes: &[u8]) -> Result<(Items, Claimed<Choice>), ReadRefusal>
     ensures { Gives (λ r. r) result (knapsack_plan_of bytes.now) }

@@ -1,29 +1,37 @@
+//! What the texts of plans are.
+
 ghost use Rattle.std.specs.Prelude.{◌≡◌, ◌≤◌, ◌↔◌, ◌++◌, List, [], ◌∷◌, ℕ, length, Ok};
 ghost use Rattle.inst_text.specs.declared.plan.Claimed.{Claimed};
 ghost use Rattle.inst_text.specs.Limits.{stated_limit};
-ghost use Rattle.inst_text.specs.Knapsack.{Instance, IsInstance, AreNumbers, IsKnapsackText, knapsack_text, choice_text};
+ghost use Rattle.inst_text.specs.Knapsack.{Instance, IsInstance, AreNumbers, IsKnapsackText};
+ghost use Rattle.inst_text.specs.Knapsack.{knapsack_text, choice_text};
 ghost use Rattle.inst_text.specs.Shop.{JobShop, IsJobShop, IsShopText, shop_text, starts_text};
-ghost use Rattle.inst_text.specs.Plans.{AreStartsOf, IsKnapsackPlanText, IsShopPlanText, knapsack_plan_of, shop_plan_of};
+ghost use Rattle.inst_text.specs.Plans.{AreStartsOf, IsKnapsackPlanText, IsShopPlanText};
+ghost use Rattle.inst_text.specs.Plans.{knapsack_plan_of, shop_plan_of};
 
-/// Bytes read as an instance and a choice exactly where they are a text of the two.
+/// Law: bytes read as an instance and a choice exactly where they are a text of the two.
 pub fn knapsack_plan_texts_are_read()
-    ensures { (bytes : List ℕ) (i : Instance) (c : Claimed (List ℕ)) → (knapsack_plan_of bytes ≡ Ok (i, c)) ↔ IsKnapsackPlanText bytes i c }
+    ensures { (bytes : List ℕ) (i : Instance) (c : Claimed (List ℕ))
+        → (knapsack_plan_of bytes ≡ Ok (i, c)) ↔ IsKnapsackPlanText bytes i c }
 {}
 
-/// Bytes read as a shop and start times exactly where they are a text of the two.
+/// Law: bytes read as a shop and start times exactly where they are a text of the two.
 pub fn shop_plan_texts_are_read()
-    ensures { (bytes : List ℕ) (s : JobShop) (c : Claimed (List (List ℕ))) → (shop_plan_of bytes ≡ Ok (s, c)) ↔ IsShopPlanText bytes s c }
+    ensures { (bytes : List ℕ) (s : JobShop) (c : Claimed (List (List ℕ)))
+        → (shop_plan_of bytes ≡ Ok (s, c)) ↔ IsShopPlanText bytes s c }
 {}
 
-/// The text of an instance, and behind it the text of a choice of its items, read as the two.
+/// Law: the text of an instance, and behind it the text of a choice of its items, read as the two.
 pub fn written_choices_are_read()
-    ensures { (i : Instance) (c : Claimed (List ℕ)) → IsInstance i → c.stated ≤ stated_limit → AreNumbers 0 (length i.items) c.plan
+    ensures { (i : Instance) (c : Claimed (List ℕ)) → IsInstance i
+        → c.stated ≤ stated_limit → AreNumbers 0 (length i.items) c.plan
         → knapsack_plan_of (knapsack_text i ++ choice_text c.stated c.plan) ≡ Ok (i, c) }
 {}
 
-/// The text of a shop, and behind it the text of start times of its operations, read as the two.
+/// Law: the text of a shop, and behind it the text of start times of its operations, read as the two.
 pub fn written_starts_are_read()
-    ensures { (s : JobShop) (c : Claimed (List (List ℕ))) → IsJobShop s → c.stated ≤ stated_limit → AreStartsOf s c.plan
+    ensures { (s : JobShop) (c : Claimed (List (List ℕ))) → IsJobShop s
+        → c.stated ≤ stated_limit → AreStartsOf s c.plan
         → shop_plan_of (shop_text s ++ starts_text c.stated c.plan) ≡ Ok (s, c) }
 {}
 

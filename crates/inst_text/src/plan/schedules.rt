@@ -1,9 +1,12 @@
+//! Reading start times behind their shop.
+
 ghost use Rattle.std.specs.Prelude.{◌≡◌, map, IfOk, Ok, List, ℕ};
 ghost use Rattle.pq_io.specs.Reading.{Leaves, Gives, GivesAndLeaves, number_at, on_line, line_at};
 ghost use Rattle.inst_text.specs.declared.plan.Claimed.{Claimed};
 ghost use Rattle.inst_text.specs.Limits.{total_limit};
 ghost use Rattle.inst_text.specs.Shop.{JobShop};
-ghost use Rattle.inst_text.specs.Plans.{told_starts_on, start_row_of, start_rows_at, starts_at, shop_plan_of, IsShopPlanText};
+ghost use Rattle.inst_text.specs.Plans.{line_starts_on, start_row_of, start_rows_at, starts_at};
+ghost use Rattle.inst_text.specs.Plans.{IsShopPlanText, shop_plan_of};
 
 use crate::limits::TOTAL_LIMIT;
 use crate::plan::Claimed;
@@ -13,9 +16,10 @@ use crate::size::open_text;
 use pq_io::{BadInput, ReadRefusal, TextReader, WordReader, on_line};
 use std::alloc::Global;
 
-/// Takes a start time, and tells the line where it is faulty.
+// Takes a start time, and tells the line where it is faulty.
 fn next_start(words: &mut WordReader<'_>) -> Result<u32, BadInput>
-    ensures exact { Leaves (λ t. t) result words.new.words (on_line words.old.number (number_at 0 total_limit words.old.words)) }
+    ensures exact { Leaves (λ t. t) result words.new.words
+        (on_line words.old.number (number_at 0 total_limit words.old.words)) }
     ensures line { words.new.number ≡ words.old.number }
 {
     let line = words.line();
@@ -23,13 +27,14 @@ fn next_start(words: &mut WordReader<'_>) -> Result<u32, BadInput>
     Ok(start as u32)
 }
 
-/// Takes this many start times.
+// Takes this many start times.
 fn next_start_times(
     alloc: Global,
     words: &mut WordReader<'_>,
     count: u64,
 ) -> Result<Vec<u32>, ReadRefusal>
-    ensures exact { GivesAndLeaves (λ row. row.items) result words.new.words (told_starts_on words.old.number count words.old.words) }
+    ensures exact { GivesAndLeaves (λ row. row.items) result words.new.words
+        (line_starts_on words.old.number count words.old.words) }
     ensures line { words.new.number ≡ words.old.number }
 {
     let mut row = Vec::with_capacity(alloc, count as usize)?;
@@ -40,7 +45,7 @@ fn next_start_times(
     Ok(row)
 }
 
-/// Takes the line of a job's start times, this many of them.
+// Takes the line of a job's start times, this many of them.
 #[tactic(auto, unfolding(pq_io::specs::Reading::line_at, crate::specs::Plans::start_row_of))]
 fn next_start_row(
     alloc: Global,
@@ -56,14 +61,15 @@ fn next_start_row(
     Ok(row)
 }
 
-/// Takes the lines of the start times of so many jobs, this many each.
+// Takes the lines of the start times of so many jobs, this many each.
 fn next_start_rows(
     alloc: Global,
     text: &mut TextReader<'_>,
     jobs: u64,
     count: u64,
 ) -> Result<Vec<Vec<u32>>, ReadRefusal>
-    ensures { GivesAndLeaves (λ rows. map (λ row. row.items) rows.items) result text.new (start_rows_at jobs count text.old) }
+    ensures { GivesAndLeaves (λ rows. map (λ row. row.items) rows.items) result text.new
+        (start_rows_at jobs count text.old) }
 {
     let mut rows = Vec::with_capacity(alloc, jobs as usize)?;
     for _ in 0..jobs {
@@ -73,7 +79,7 @@ fn next_start_rows(
     Ok(rows)
 }
 
-/// Takes the lines of a plan of a shop of so many jobs and machines.
+// Takes the lines of a plan of a shop of so many jobs and machines.
 #[tactic(auto, unfolding(crate::specs::Plans::starts_at))]
 fn next_starts(
     alloc: Global,
@@ -103,12 +109,13 @@ pub fn read_plan_shop(alloc: Global, bytes: &[u8]) -> Result<(Jobs, Claimed<Star
     // What is read is spelled so.
     ensures spelled { IfOk result (λ r. IsShopPlanText bytes.now r.0 r.1) }
     // What is spelled so is read, unless memory runs out.
-    ensures read { (s : JobShop) (c : Claimed (List (List ℕ))) → IsShopPlanText bytes.now s c → Gives (λ r. r) result (Ok (s, c)) }
+    ensures read { (s : JobShop) (c : Claimed (List (List ℕ))) → IsShopPlanText bytes.now s c
+        → Gives (λ r. r) result (Ok (s, c)) }
 {
     whole_plan(alloc, bytes)
 }
 
-/// What `read_plan_shop` gives, read off its definition.
+// What `read_plan_shop` gives, read off its definition.
 #[tactic(auto, unfolding(crate::specs::Plans::shop_plan_of, crate::specs::Several::whole, crate::specs::Several::both))]
 fn whole_plan(alloc: Global, bytes: &[u8]) -> Result<(Jobs, Claimed<Starts>), ReadRefusal>
     ensures { Gives (λ r. r) result (shop_plan_of bytes.now) }

@@ -1,3 +1,5 @@
+//! Reading the number that is stated for a plan.
+
 ghost use Rattle.std.specs.Prelude.{◌≡◌};
 ghost use Rattle.pq_io.specs.Reading.{Leaves, line_at};
 ghost use Rattle.inst_text.specs.Plans.{stated_of};
@@ -5,7 +7,7 @@ ghost use Rattle.inst_text.specs.Plans.{stated_of};
 use crate::limits::STATED_LIMIT;
 use pq_io::{BadInput, Cause, TextReader, WordReader, on_line};
 
-/// The number that is stated behind this word.
+// The number that is stated behind this word.
 #[tactic(auto, unfolding(crate::specs::Plans::stated_of))]
 fn stated(words: &mut WordReader<'_>, word: &[u8]) -> Result<u32, Cause>
     ensures { result ≡ stated_of word.now words.old.words }

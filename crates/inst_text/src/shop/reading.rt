@@ -1,7 +1,10 @@
+//! Reading a job shop.
+
 ghost use Rattle.std.specs.Prelude.{◌≡◌, ◌-◌, ◌≤◌, ◌^◌, ◌<◌, map, IfOk, Ok};
 ghost use Rattle.pq_io.specs.Reading.{Leaves, Gives, GivesAndLeaves, on_line, line_at};
-ghost use Rattle.inst_text.specs.Limits.{machine_limit, total_limit};
-ghost use Rattle.inst_text.specs.Shop.{JobShop, IsShopText, row_time, shop_head_of, operation_at, told_operations_at, row_of, rows_at, shop_at, shop_of};
+ghost use Rattle.inst_text.specs.Limits.{total_limit};
+ghost use Rattle.inst_text.specs.Shop.{JobShop, IsMachineCount, IsShopText, row_time, shop_head_of, operation_at};
+ghost use Rattle.inst_text.specs.Shop.{line_operations_at, row_of, rows_at, shop_at, shop_of};
 
 use crate::limits::{JOB_LIMIT, MACHINE_LIMIT, OPERATION_LIMIT, TOTAL_LIMIT};
 use crate::shop::{Jobs, Operation};
@@ -9,7 +12,7 @@ use crate::size::open_text;
 use pq_io::{BadInput, Cause, ReadRefusal, TextReader, WordReader, on_line};
 use std::alloc::Global;
 
-/// The number of jobs, and the number of machines.
+// The number of jobs, and the number of machines.
 #[tactic(auto, unfolding(crate::specs::Shop::shop_head_of))]
 fn head(words: &mut WordReader<'_>) -> Result<(u64, u64), Cause>
     ensures { result ≡ shop_head_of words.old.words }
@@ -23,7 +26,7 @@ fn head(words: &mut WordReader<'_>) -> Result<(u64, u64), Cause>
     Ok((jobs, machines))
 }
 
-/// Takes the first line.
+// Takes the first line.
 #[tactic(auto, unfolding(pq_io::specs::Reading::line_at))]
 fn next_head(text: &mut TextReader<'_>) -> Result<(u64, u64), BadInput>
     ensures { Leaves (λ h. h) result text.new (line_at shop_head_of text.old) }
@@ -33,11 +36,10 @@ fn next_head(text: &mut TextReader<'_>) -> Result<(u64, u64), BadInput>
     on_line(line, head(&mut words))
 }
 
-/// The operation on one of so many machines, whose time is at most `room`.
+// The operation on one of so many machines, whose time is at most `room`.
 #[tactic(auto, unfolding(crate::specs::Shop::operation_at))]
 fn operation(words: &mut WordReader<'_>, machines: u64, room: u64) -> Result<Operation, Cause>
-    requires some { 1 ≤ machines }
-    requires few { machines ≤ machine_limit }
+    requires machines { IsMachineCount machines }
     requires room { room < 2 ^ 32 }
     ensures exact { Leaves (λ o. o) result words.new.words (operation_at machines room words.old.words) }
     ensures fits { IfOk result (λ o. o.time ≤ room) }
@@ -51,16 +53,16 @@ fn operation(words: &mut WordReader<'_>, machines: u64, room: u64) -> Result<Ope
     })
 }
 
-/// Takes an operation, and tells the line where it is faulty.
+// Takes an operation, and tells the line where it is faulty.
 fn next_operation(
     words: &mut WordReader<'_>,
     machines: u64,
     room: u64,
 ) -> Result<Operation, BadInput>
-    requires some { 1 ≤ machines }
-    requires few { machines ≤ machine_limit }
+    requires machines { IsMachineCount machines }
     requires room { room < 2 ^ 32 }
-    ensures exact { Leaves (λ o. o) result words.new.words (on_line words.old.number (operation_at machines room words.old.words)) }
+    ensures exact { Leaves (λ o. o) result words.new.words
+        (on_line words.old.number (operation_at machines room words.old.words)) }
     ensures fits { IfOk result (λ o. o.time ≤ room) }
     ensures line { words.new.number ≡ words.old.number }
 {
@@ -68,17 +70,17 @@ fn next_operation(
     on_line(line, operation(words, machines, room))
 }
 
-/// Takes as many operations as there are machines. The times come out of `room`.
+// Takes as many operations as there are machines. The times come out of `room`.
 fn next_operations(
     alloc: Global,
     words: &mut WordReader<'_>,
     machines: u64,
     room: &mut u64,
 ) -> Result<Vec<Operation>, ReadRefusal>
-    requires some { 1 ≤ machines }
-    requires few { machines ≤ machine_limit }
+    requires machines { IsMachineCount machines }
     requires room { room.old < 2 ^ 32 }
-    ensures exact { GivesAndLeaves (λ row. row.items) result words.new.words (told_operations_at words.old.number machines machines room.old words.old.words) }
+    ensures exact { GivesAndLeaves (λ row. row.items) result words.new.words
+        (line_operations_at words.old.number machines machines room.old words.old.words) }
     ensures line { words.new.number ≡ words.old.number }
     ensures left { IfOk result (λ row. room.new ≡ room.old - row_time row.items) }
 {
@@ -91,7 +93,7 @@ fn next_operations(
     Ok(row)
 }
 
-/// Takes the line of a job.
+// Takes the line of a job.
 #[tactic(auto, unfolding(pq_io::specs::Reading::line_at, crate::specs::Shop::row_of))]
 fn next_row(
     alloc: Global,
@@ -99,8 +101,7 @@ fn next_row(
     machines: u64,
     room: &mut u64,
 ) -> Result<Vec<Operation>, ReadRefusal>
-    requires some { 1 ≤ machines }
-    requires few { machines ≤ machine_limit }
+    requires machines { IsMachineCount machines }
     requires room { room.old < 2 ^ 32 }
     ensures exact { GivesAndLeaves (λ row. row.items) result text.new (line_at (row_of machines room.old) text.old) }
     ensures left { IfOk result (λ row. room.new ≡ room.old - row_time row.items) }
@@ -112,16 +113,16 @@ fn next_row(
     Ok(row)
 }
 
-/// Takes the lines of this many jobs.
+// Takes the lines of this many jobs.
 fn next_rows(
     alloc: Global,
     text: &mut TextReader<'_>,
     jobs: u64,
     machines: u64,
 ) -> Result<Vec<Vec<Operation>>, ReadRefusal>
-    requires some { 1 ≤ machines }
-    requires few { machines ≤ machine_limit }
-    ensures { GivesAndLeaves (λ rows. map (λ row. row.items) rows.items) result text.new (rows_at jobs machines total_limit text.old) }
+    requires { IsMachineCount machines }
+    ensures { GivesAndLeaves (λ rows. map (λ row. row.items) rows.items) result text.new
+        (rows_at jobs machines total_limit text.old) }
 {
     let mut rows = Vec::with_capacity(alloc, jobs as usize)?;
     let mut room = u64::from(TOTAL_LIMIT);
@@ -132,9 +133,11 @@ fn next_rows(
     Ok(rows)
 }
 
-/// Takes the lines of a shop.
+/// Takes the lines of a shop: `n m`, and a line for each job.
+///
+/// Refuses with the first fault, after which nothing is promised of the lines that are left.
 #[tactic(auto, unfolding(crate::specs::Shop::shop_at))]
-pub(crate) fn next_shop(alloc: Global, text: &mut TextReader<'_>) -> Result<Jobs, ReadRefusal>
+pub fn next_shop(alloc: Global, text: &mut TextReader<'_>) -> Result<Jobs, ReadRefusal>
     ensures { GivesAndLeaves (λ s. s) result text.new (shop_at text.old) }
 {
     let (jobs, machines) = next_head(text)?;
@@ -162,7 +165,7 @@ pub fn read_shop(alloc: Global, bytes: &[u8]) -> Result<Jobs, ReadRefusal>
     whole_shop(alloc, bytes)
 }
 
-/// What `read_shop` gives, read off its definition.
+// What `read_shop` gives, read off its definition.
 #[tactic(auto, unfolding(crate::specs::Shop::shop_of, crate::specs::Several::whole))]
 fn whole_shop(alloc: Global, bytes: &[u8]) -> Result<Jobs, ReadRefusal>
     ensures { Gives (λ s. s) result (shop_of bytes.now) }

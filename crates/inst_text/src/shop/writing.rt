@@ -1,3 +1,5 @@
+//! Writing start times.
+
 ghost use Rattle.std.specs.Prelude.{◌≡◌, ◌++◌, ◌∷◌, [], map, IfOk, OnOk};
 ghost use Rattle.std.specs.Fmt.{decimal};
 ghost use Rattle.pq_io.specs.Writing.{words_text};
@@ -7,7 +9,7 @@ use crate::shop::Starts;
 use pq_io::{NoMemory, write_number, write_numbers};
 use std::alloc::Global;
 
-/// Appends a job's start times, with a blank between two.
+// Appends a job's start times, with a blank between two.
 fn write_times(text: &mut Vec<u8>, row: &[u32]) -> Result<(), NoMemory>
     ensures { OnOk result (text.new.items ≡ text.old.items ++ words_text (map decimal row.now)) }
 {
@@ -19,7 +21,7 @@ fn write_times(text: &mut Vec<u8>, row: &[u32]) -> Result<(), NoMemory>
     Ok(())
 }
 
-/// Appends the line of a job's start times.
+// Appends the line of a job's start times.
 fn write_row(text: &mut Vec<u8>, row: &[u32]) -> Result<(), NoMemory>
     ensures { OnOk result (text.new.items ≡ text.old.items ++ (words_text (map decimal row.now) ++ 10 ∷ [])) }
 {
