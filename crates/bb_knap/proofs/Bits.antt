@@ -2,7 +2,7 @@
 use Rattle.std.proofs.Common.{◌≡◌, ℕ, Bool, true, false, cond, zero, suc, ◌+◌, ◌-◌, ◌*◌, ◌/◌, ◌%◌, ◌^◌, ◌<◌, ◌≤◌, List, [], ◌∷◌, ◌++◌, inl, inr, refl, sym, ap, ◌∙◌, length, get_or, arith}
 use Rattle.std.proofs.lemmas.Bool.{cases_lt}
 use Rattle.std.proofs.lemmas.List.{append_assoc, append-nil, length_push, length-append, get_or_append_left, get_or-append-add, get_or_push, get_or-append_right}
-use Rattle.std.proofs.lemmas.Nat.{div-mul-add, mod-mul-add, shr-shr, pow-add, pow_below}
+use Rattle.std.proofs.lemmas.Nat.{div-mul-add, mod-mul-add, shr-shr, pow-add, pow_below, pow_pos}
 use mir.Val.{bool_byte}
 use Rattle.bb_knap.specs.Decisions.{word_bits, all_bits}
 
@@ -94,6 +94,9 @@ pub last-pushed : (count last bit : ℕ) → last < 2 ^ (count % 64) → count %
 last-pushed count last bit within inner lt =
     let e : (count + 1) % 64 ≡ count % 64 + 1 = omega (arith, inner) in
     rw e (omega (arith, pow-more (count % 64), within, lt))
+
+pub none-last : (count : ℕ) → 0 < 2 ^ ((count + 1) % 64)
+none-last count = pow_pos ((count + 1) % 64)
 
 pub bits-pushed : (ws : List ℕ) (count last bit : ℕ) → bit < 2 → count % 64 < 63 → all_bits ws ++ word_bits ((count + 1) % 64) (last * 2 + bit) ≡ (all_bits ws ++ word_bits (count % 64) last) ++ bit ∷ []
 bits-pushed ws count last bit lt inner =

@@ -11,9 +11,9 @@ use Rattle.bb_problem.specs.Tree.{total}
 use Rattle.bb_knap.specs.Plans.{item_at}
 use Rattle.bb_knap.specs.Order.{order_of}
 use Rattle.bb_knap.specs.Branching.{taken, taken_of, IsPlanOf}
-use Rattle.bb_knap.specs.Laws.Ordered.{one_at, one_at-self}
-use Rattle.bb_knap.specs.Laws.InOrder.{sum_below, total-permutation, total-order_below, weight_of-total, value_of-total}
-use Rattle.bb_knap.specs.Laws.Taken.{total-taken-le}
+use Rattle.bb_knap.specs.TreeLawsHold.Ordered.{one_at, one_at-self}
+use Rattle.bb_knap.specs.TreeLawsHold.InOrder.{sum_below, total-permutation, total-order_below, weight_of-total, value_of-total}
+use Rattle.bb_knap.specs.TreeLawsHold.Taken.{total-taken-le}
 
 shift : (i : ℕ) → suc i + 1 ≡ suc (i + 1)
 shift i = omega arith

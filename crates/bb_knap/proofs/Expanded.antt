@@ -4,15 +4,16 @@ use Rattle.std.specs.Prelude.{min}
 use Rattle.std.proofs.lemmas.Bool.{le-leb, lt-leb}
 use Rattle.std.proofs.lemmas.List.{length_push}
 use Rattle.inst_text.specs.declared.knapsack.Item.{Item}
+use Rattle.inst_text.specs.Limits.{total_limit}
 use Rattle.inst_text.specs.Knapsack.{Instance, IsInstance}
 use Rattle.bb_problem.specs.Expanding.{StandBelow}
 use Rattle.bb_knap.specs.Plans.{item_at, weight_of, value_of, IsFeasible, cost_of}
 use Rattle.bb_knap.specs.Order.{order_of}
 use Rattle.bb_knap.specs.Branching.{taken, taken_of, rest_of, room_of, choices_at, children_of, Reaches, Node, Stands, IsPlanOf}
-use Rattle.bb_knap.specs.Laws.InOrder.{length-order_below}
-use Rattle.bb_knap.specs.Laws.Taken.{taken-none, taken-nothing, taken-left, taken-taken}
-use Rattle.bb_knap.specs.Laws.Dantzig.{value_of-taken-le}
-use Rattle.bb_knap.specs.Laws.TreeLaws.{ends, rest-none, weight_of-more, value_of-more}
+use Rattle.bb_knap.specs.TreeLawsHold.InOrder.{length-order_below}
+use Rattle.bb_knap.specs.TreeLawsHold.Taken.{taken-none, taken-nothing, taken-left, taken-taken}
+use Rattle.bb_knap.specs.TreeLawsHold.Dantzig.{value_of-taken-le}
+use Rattle.bb_knap.specs.TreeLawsHold.Tree.{ends, rest-none, weight_of-more, value_of-more}
 use Rattle.bb_knap.proofs.Prefixes.{at_place, value_of-order}
 
 -- the next item that decisions have not decided on
@@ -53,7 +54,7 @@ leaves_next i name inside =
     ap (λ ks. taken ks (0 ∷ [])) (next_is i name inside) ∙ taken-left (next_of i name) (drop (length name + 1) (order_of i.items)) []
     ∙ taken-none (drop (length name + 1) (order_of i.items))
 
-small_min : (n m : ℕ) → n ≤ 67108863 → m ≡ min n 4294967295 → m ≡ n
+small_min : (n m : ℕ) → n ≤ total_limit → m ≡ min n 4294967295 → m ≡ n
 small_min n m le e = omega (arith, le, e)
 
 -- the child that takes the next item
@@ -66,7 +67,7 @@ stands_taking i node child name limits s inside fits decisions room value =
     let weight_next = ap (weight_of i.items) (takes_next i name inside) in
     let value_next = ap (value_of i.items) (takes_next i name inside) in
     let whole : value_of i.items (taken_of i (name ++ 1 ∷ [])) ≡ node.value + (item_at i.items (next_of i name)).value = omega (arith, value_more, value_next, s.value) in
-    let small : node.value + (item_at i.items (next_of i name)).value ≤ 67108863 =
+    let small : node.value + (item_at i.items (next_of i name)).value ≤ total_limit =
     omega (arith, whole, value_of-taken-le i.items (order_of i.items) (name ++ 1 ∷ []), value_of-order i.items, limits.values) in
     record {
       decisions = decisions ∙ ap (λ ds. ds ++ 1 ∷ []) s.decisions;

@@ -1,4 +1,6 @@
+-- Lemmas that the proofs of several functions share.
 pub mod Totals
+pub mod FullWords
 pub mod Bits
 pub mod Prefixes
 pub mod Chosen

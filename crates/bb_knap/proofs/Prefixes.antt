@@ -1,19 +1,22 @@
 -- Sums over the first items of an order, and Dantzig's bound by them.
 use Rattle.std.proofs.Common.{◌≡◌, ℕ, zero, suc, ◌+◌, ◌-◌, ◌*◌, ◌/◌, ◌<◌, ◌≤◌, List, [], ◌∷◌, ◌++◌, inl, inr, refl, sym, ap, ◌∙◌, subst, length, drop, take, get_or, add-one, arith}
 use Rattle.std.specs.List.{AllByRecursion}
+use Rattle.std.specs.List.Sorted.{IsNonDecreasing}
+use Rattle.std.proofs.lemmas.List.Sorted.{IsNonDecreasingBy-from_default}
 use Rattle.std.proofs.lemmas.Bool.{cases_lt}
 use Rattle.std.proofs.lemmas.Bool.Decides.{leb_tells}
-use Rattle.std.proofs.lemmas.List.{take_more, take-append-drop, drop-drop, append-nil, at_drop_more, get_or_append_left, get_or_push}
+use Rattle.std.proofs.lemmas.List.{take_more, take-append-drop, drop-drop, append-nil, at_drop_more, get_or_append_left, get_or_push, length_push}
 use Rattle.std.proofs.Math.Seq.{drop-cons, take-add}
 use Rattle.std.proofs.Math.Nat.{div-le_of_le-mul, mul-le-mul_right}
 use Rattle.std.proofs.Math.ListN.{drop_of_length-le}
 use Rattle.inst_text.specs.declared.knapsack.Item.{Item}
+use Rattle.inst_text.specs.Limits.{item_limit, weight_limit, total_limit}
 use Rattle.inst_text.specs.Knapsack.{Instance, IsInstance, AreNumbers, total_value}
 use Rattle.bb_knap.specs.Plans.{item_at, weight_of, value_of}
 use Rattle.bb_knap.specs.Order.{order_of}
 use Rattle.bb_knap.specs.Branching.{dantzig}
-use Rattle.bb_knap.specs.Sums.{AreSums}
-use Rattle.bb_knap.specs.Laws.InOrder.{weight_of-append, value_of-append, value_of-total, sum_below, total-order_below, length-order_below}
+use Rattle.bb_knap.specs.Sums.{AreSums, weight_sum_limit}
+use Rattle.bb_knap.specs.TreeLawsHold.InOrder.{weight_of-append, value_of-append, value_of-total, sum_below, total-order_below, length-order_below}
 use Rattle.bb_knap.proofs.Totals.{total_value-drop}
 
 -- the first numbers, one more
@@ -39,13 +42,13 @@ value_of-take-le items (k ∷ ks) zero = omega arith
 value_of-take-le items (k ∷ ks) (suc i) = omega (arith, value_of-take-le items ks i)
 
 -- each item is light
-item_weight-le : (items : List Item) (k : ℕ) → AllByRecursion (λ (j : Item). j.weight ≤ 1000000000) items → (item_at items k).weight ≤ 1000000000
+item_weight-le : (items : List Item) (k : ℕ) → AllByRecursion (λ (j : Item). j.weight ≤ weight_limit) items → (item_at items k).weight ≤ weight_limit
 item_weight-le [] zero light = omega arith
 item_weight-le [] (suc k) light = omega arith
 item_weight-le (i ∷ is) zero light = light.0
 item_weight-le (i ∷ is) (suc k) light = item_weight-le is k (light.1)
 
-weight_of-le : (items : List Item) (ks : List ℕ) → AllByRecursion (λ (j : Item). j.weight ≤ 1000000000) items → weight_of items ks ≤ 1000000000 * length ks
+weight_of-le : (items : List Item) (ks : List ℕ) → AllByRecursion (λ (j : Item). j.weight ≤ weight_limit) items → weight_of items ks ≤ weight_limit * length ks
 weight_of-le items [] light = omega arith
 weight_of-le items (k ∷ ks) light = omega (arith, item_weight-le items k light, weight_of-le items ks light)
 
@@ -54,15 +57,15 @@ length-numbers low n [] numbers = omega arith
 length-numbers low n (k ∷ ks) numbers = omega (arith, numbers.0, numbers.1, length-numbers (k + 1) n ks numbers.2)
 
 -- a choice weighs little
-pub weight_of-numbers-le : (items : List Item) (ks : List ℕ) → AreNumbers 0 1024 ks → AllByRecursion (λ (j : Item). j.weight ≤ 1000000000) items → weight_of items ks ≤ 1024000000000
-weight_of-numbers-le items ks numbers light = omega (arith, weight_of-le items ks light, length-numbers 0 1024 ks numbers)
+pub weight_of-numbers-le : (items : List Item) (ks : List ℕ) → AreNumbers 0 item_limit ks → AllByRecursion (λ (j : Item). j.weight ≤ weight_limit) items → weight_of items ks ≤ weight_sum_limit
+weight_of-numbers-le items ks numbers light = omega (arith, weight_of-le items ks light, length-numbers 0 item_limit ks numbers)
 
 -- the weight of the numbers from one place on: that of the number there, and of those behind it
 pub weight_of-drop : (items : List Item) (ks : List ℕ) (i : ℕ) → i < length ks → weight_of items (drop i ks) ≡ (item_at items (get_or ks i 0)).weight + weight_of items (drop (i + 1) ks)
 weight_of-drop items ks i inside = at_drop_more (weight_of items) ks i 0 inside
 
 -- all items weigh little
-pub weight_of-order-le : (i : Instance) → IsInstance i → weight_of i.items (order_of i.items) ≤ 1024000000000
+pub weight_of-order-le : (i : Instance) → IsInstance i → weight_of i.items (order_of i.items) ≤ weight_sum_limit
 weight_of-order-le i limits =
     omega (arith, weight_of-le i.items (order_of i.items) limits.weights, length-order_below i.items (length i.items), limits.count)
 
@@ -79,7 +82,7 @@ value_of-order items =
     value_of-total items (order_of items) ∙ total-order_below (λ k. (item_at items k).value) items (length items)
     ∙ omega (arith, sum_below-drop items (length items), ap total_value none)
 
-pub value_of-order-le : (i : Instance) (k : ℕ) → IsInstance i → value_of i.items (take k (order_of i.items)) ≤ 67108863
+pub value_of-order-le : (i : Instance) (k : ℕ) → IsInstance i → value_of i.items (take k (order_of i.items)) ≤ total_limit
 value_of-order-le i k limits = omega (arith, value_of-take-le i.items (order_of i.items) k, value_of-order i.items, limits.values)
 
 -- where all items fit
@@ -176,6 +179,19 @@ value_of-take-mono items ks from place le =
     let P : ℕ → Type 0 = λ p. value_of items (take p ks) ≡ value_of items (take from ks) + value_of items (take (place - from) (drop from ks)) in
     omega (arith, subst P e (value-mid items ks from (place - from)))
 
+pub weight_of-take-mono : (items : List Item) (ks : List ℕ) (from place : ℕ) → from ≤ place → weight_of items (take from ks) ≤ weight_of items (take place ks)
+weight_of-take-mono items ks from place le =
+    let e : from + (place - from) ≡ place = omega (arith, le) in
+    let P : ℕ → Type 0 = λ p. weight_of items (take p ks) ≡ weight_of items (take from ks) + weight_of items (take (place - from) (drop from ks)) in
+    omega (arith, subst P e (weight-mid items ks from (place - from)))
+
+-- the sums of weights do not fall
+pub weight_sums-rise : (items : List Item) (ks sums : List ℕ) → AreSums (weight_of items) ks sums → IsNonDecreasing sums
+weight_sums-rise items ks sums s =
+    IsNonDecreasingBy-from_default (λ x. x) sums 0 (λ j k le inside.
+    let k_in : k ≤ length ks = omega (arith, inside, s.count) in
+    omega (arith, s.each j (omega (arith, le, k_in)), s.each k k_in, weight_of-take-mono items ks j k le))
+
 -- Dantzig's bound where all items from one place on fit
 pub dantzig-at_end : (items : List Item) (room : ℕ) (ks : List ℕ) (from place : ℕ) → from ≤ place → place ≡ length ks → weight_of items (take place ks) ≤ weight_of items (take from ks) + room
     → dantzig items room (drop from ks) ≡ value_of items (take place ks) - value_of items (take from ks)
@@ -198,17 +214,41 @@ dantzig-at_break items room ks from place le =
     + (weight_of items (take from ks) + room - weight_of items (take p ks)) * (item_at items (get_or ks p 0)).value / (item_at items (get_or ks p 0)).weight in
     subst P e (dantzig-from_break items room ks from (place - from))
 
+-- the sums over the first i of these numbers, and the last of them
+pub record AreSumsTo (measure : List ℕ → ℕ) (ks : List ℕ) (i sum : ℕ) (sums : List ℕ) : Type 0 where
+  pub last : sum ≡ measure (take i ks)
+  pub count : length sums ≡ i + 1
+  pub each : (k : ℕ) → k ≤ i → get_or sums k 0 ≡ measure (take k ks)
+
+-- of no numbers
+pub sums-none : (measure : List ℕ → ℕ) (ks sums : List ℕ) → sums ≡ 0 ∷ [] → measure [] ≡ 0 → AreSumsTo measure ks 0 0 sums
+sums-none measure ks sums is none = record {
+  last = sym none;
+  count = ap length is;
+  each = λ k le. let e : k ≡ 0 = omega (arith, le) in rw (e, is) (sym none);
+}
+
 -- one sum more
-pub sums-more : (measure : List ℕ → ℕ) (ks sums new : List ℕ) (i sum : ℕ) → length sums ≡ i + 1 → new ≡ sums ++ sum ∷ [] → sum ≡ measure (take (i + 1) ks)
-    → ((k : ℕ) → k ≤ i → get_or sums k 0 ≡ measure (take k ks)) → (k : ℕ) → k ≤ i + 1 → get_or new k 0 ≡ measure (take k ks)
-sums-more measure ks sums new i sum count is next each k le =
-    rw is
-    (elim (cases_lt k (i + 1)) [
-      | inl lt ↦ get_or_append_left sums (sum ∷ []) 0 k (omega (arith, count, lt)) ∙ each k (omega (arith, lt))
-      | inr ge ↦
-          let e : k ≡ i + 1 = omega (arith, le, ge) in
-          get_or_push sums sum 0 k (omega (arith, count, e)) ∙ next ∙ ap (λ n. measure (take n ks)) (sym e)
-    ])
+pub sums-more : (measure : List ℕ → ℕ) (ks : List ℕ) (i sum next : ℕ) (sums new : List ℕ) → AreSumsTo measure ks i sum sums
+    → next ≡ measure (take (i + 1) ks) → new ≡ sums ++ next ∷ [] → AreSumsTo measure ks (i + 1) next new
+sums-more measure ks i sum next sums new s last is = record {
+  last = last;
+  count = omega (arith, ap length is, length_push sums next, s.count);
+  each = λ k le. rw is
+      (elim (cases_lt k (i + 1)) [
+        | inl lt ↦ get_or_append_left sums (next ∷ []) 0 k (omega (arith, s.count, lt)) ∙ s.each k (omega (arith, lt))
+        | inr ge ↦
+            let e : k ≡ i + 1 = omega (arith, le, ge) in
+            get_or_push sums next 0 k (omega (arith, s.count, e)) ∙ last ∙ ap (λ n. measure (take n ks)) (sym e)
+      ]);
+}
+
+-- the sums over all numbers
+pub sums-all : (measure : List ℕ → ℕ) (ks : List ℕ) (i sum : ℕ) (sums : List ℕ) → AreSumsTo measure ks i sum sums → i ≡ length ks → AreSums measure ks sums
+sums-all measure ks i sum sums s end = record {
+  count = omega (arith, s.count, end);
+  each = λ k le. s.each k (omega (arith, le, end));
+}
 
 -- what the sums say where an item does not fit
 pub record IsBreak (items : List Item) (room : ℕ) (ks weights values : List ℕ) (from place : ℕ) : Type 0 where

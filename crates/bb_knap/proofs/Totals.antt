@@ -4,7 +4,7 @@ use Rattle.std.proofs.lemmas.List.{at_drop_more}
 use Rattle.inst_text.specs.declared.knapsack.Item.{Item}
 use Rattle.inst_text.specs.Knapsack.{AreNumbers, total_value}
 use Rattle.bb_knap.specs.Plans.{item_at, value_of}
-pub use Rattle.bb_knap.specs.Laws.InOrder.{weight_of-append, value_of-append}
+pub use Rattle.bb_knap.specs.TreeLawsHold.InOrder.{weight_of-append, value_of-append}
 
 -- behind the first k of no items there is no value
 total_value-drop-nil : (k : ℕ) → total_value (drop k []) ≡ 0

@@ -1,5 +1,6 @@
 -- The tree of decisions on a knapsack's items, and Dantzig's bound.
-use Rattle.std.specs.Prelude.{ℕ, zero, suc, ◌≡◌, ◌+◌, ◌-◌, ◌*◌, ◌/◌, ◌≤◌, ◌^◌, nat_le, if◌then◌else◌, List, [], ◌∷◌, ◌++◌, length, drop, min, max}
+use Rattle.std.specs.Prelude.{ℕ, zero, suc, ◌≡◌, ◌+◌, ◌-◌, ◌*◌, ◌/◌, ◌≤◌, ◌^◌, nat_le, if◌then◌else◌}
+use Rattle.std.specs.Prelude.{List, [], ◌∷◌, ◌++◌, length, drop, min, max}
 use Rattle.std.specs.List.Sorted.{IsPermutation}
 use Rattle.inst_text.specs.declared.knapsack.Item.{Item}
 use Rattle.inst_text.specs.Knapsack.{Instance, total_value}
@@ -40,7 +41,8 @@ room_of i decisions = i.capacity - weight_of i.items (taken_of i decisions)
 -- the values of all items, but those of the taken ones and at most what the rest can bring
 unfoldable pub bound_of : Instance → List ℕ → ℕ
 bound_of i decisions =
-    total_value i.items - value_of i.items (taken_of i decisions) - dantzig i.items (room_of i decisions) (rest_of i decisions)
+    total_value i.items - value_of i.items (taken_of i decisions)
+    - dantzig i.items (room_of i decisions) (rest_of i decisions)
 
 -- To take the next item, where it fits, and to leave it; nothing where no item is left.
 unfoldable pub choices_at : List Item → ℕ → List ℕ → List ℕ
@@ -88,7 +90,9 @@ pub record IsPlanOf (i : Instance) (decisions choice : List ℕ) : Type 0 where
 unfoldable pub best_value : ℕ → List Item → ℕ
 best_value room [] = 0
 best_value room (x ∷ xs) =
-    if nat_le x.weight room then max (x.value + best_value (room - x.weight) xs) (best_value room xs) else best_value room xs
+    if nat_le x.weight room
+    then max (x.value + best_value (room - x.weight) xs) (best_value room xs)
+    else best_value room xs
 
 -- the least cost of a feasible choice
 abbrev pub least_cost : Instance → ℕ

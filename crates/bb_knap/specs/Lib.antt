@@ -1,8 +1,9 @@
+-- What a knapsack's plans, order, tree and sums are.
 pub mod Plans
 pub mod Verdicts
 pub mod Order
 pub mod Branching
 pub mod Decisions
 pub mod Sums
-pub mod Prepared
-pub mod Laws
+pub mod OrderAndSums
+pub mod TreeLawsHold

@@ -1,6 +1,7 @@
 -- The order in which a search decides on the items: those without weight first, then the others by falling
 -- value for their weight; equal ones by their numbers.
-use Rattle.std.specs.Prelude.{ℕ, zero, suc, ◌*◌, Bool, ◌&&◌, ◌||◌, not, nat_eq, nat_lt, if◌then◌else◌, List, [], ◌∷◌, length}
+use Rattle.std.specs.Prelude.{ℕ, zero, suc, ◌*◌, Bool, ◌&&◌, ◌||◌, not, nat_eq, nat_lt, if◌then◌else◌}
+use Rattle.std.specs.Prelude.{List, [], ◌∷◌, length}
 use Rattle.inst_text.specs.declared.knapsack.Item.{Item}
 use Rattle.bb_knap.specs.Plans.{item_at}
 

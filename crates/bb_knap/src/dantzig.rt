@@ -1,14 +1,19 @@
+//! Dantzig's bound by sums over the order.
+
 ghost use Rattle.std.specs.Prelude.{◌≡◌, ◌+◌, ◌<◌, ◌≤◌, drop, length, slice_index};
+ghost use Rattle.std.specs.List.Sorted.{IsNonDecreasing};
+ghost use Rattle.inst_text.specs.Limits.{capacity_limit, total_limit};
 ghost use Rattle.bb_knap.specs.Plans.{weight_of, value_of};
 ghost use Rattle.bb_knap.specs.Branching.{dantzig};
-ghost use Rattle.bb_knap.specs.Sums.{AreSums};
+ghost use Rattle.bb_knap.specs.Sums.{AreSums, weight_sum_limit};
 
 use crate::order::numbered_item;
 use inst_text::Item;
 
-/// The place of the first item from this one on that no longer fits: the last place whose sum is within the
-/// limit. Binary search, O(log n).
+// The place of the first item from this one on that no longer fits: the last place whose sum is within the
+// limit. Binary search, O(log n).
 fn break_place(weights: &[u64], from: usize, limit: u64) -> usize
+    requires rising { IsNonDecreasing weights.now }
     requires inside { from < length weights.now }
     requires fits { slice_index weights.now from ≤ limit }
     ensures from { from ≤ result }
@@ -16,17 +21,7 @@ fn break_place(weights: &[u64], from: usize, limit: u64) -> usize
     ensures fits { slice_index weights.now result ≤ limit }
     ensures breaks { result + 1 < length weights.now → limit < slice_index weights.now (result + 1) }
 {
-    let mut low = from;
-    let mut high = weights.len() - 1;
-    while low < high {
-        let middle = high - (high - low) / 2;
-        if weights[middle] <= limit {
-            low = middle;
-        } else {
-            high = middle - 1;
-        }
-    }
-    low
+    from + weights[from + 1..].partition_point(|sum| *sum <= limit)
 }
 
 /// Dantzig's bound of the items from this place of the order on, with this room, by the sums of weights and of
@@ -41,10 +36,10 @@ pub fn dantzig_from(
 ) -> u32
     requires weights { AreSums (weight_of items.now) order.now weights.now }
     requires values { AreSums (value_of items.now) order.now values.now }
-    requires light { weight_of items.now order.now ≤ 1024000000000 }
-    requires small { value_of items.now order.now ≤ 67108863 }
+    requires light { weight_of items.now order.now ≤ weight_sum_limit }
+    requires small { value_of items.now order.now ≤ total_limit }
     requires from { from ≤ length order.now }
-    requires room { room ≤ 1000000000000 }
+    requires room { room ≤ capacity_limit }
     ensures { result ≡ dantzig items.now room (drop from order.now) }
 {
     let limit = weights[from] + room;

@@ -1,4 +1,7 @@
+//! The knapsack problem: its instance, and what is kept beside it.
+
 ghost use Rattle.std.specs.Prelude.{◌≡◌, ◌≤◌, drop, length, IfOk};
+ghost use Rattle.inst_text.specs.Limits.{capacity_limit};
 ghost use Rattle.inst_text.specs.Knapsack.{IsInstance, total_value};
 ghost use Rattle.bb_knap.specs.Plans.{IsChoiceOf, weight_of, value_of, cost_of};
 ghost use Rattle.bb_knap.specs.Verdicts.{IsVerdict};
@@ -7,7 +10,7 @@ ghost use Rattle.bb_knap.specs.Branching.{dantzig, root_bound};
 
 use crate::dantzig::dantzig_from;
 use crate::order::{item_order, numbered_item};
-use crate::sums::{value_sums, weight_sums};
+use crate::sums::{Sums, sums_over};
 use crate::verdict::KnapVerdict;
 use inst_text::{Choice, Item, Items};
 use pq_io::NoMemory;
@@ -22,11 +25,10 @@ use std::marker::Model;
 pub struct Knapsack {
     items: Items,
     order: Vec<u32>,
-    weights: Vec<u64>,
-    values: Vec<u32>,
+    sums: Sums,
 }
 
-/// What some items weigh and are worth together.
+// What some items weigh and are worth together.
 #[derive(Clone, Copy)]
 struct Load {
     weight: u64,
@@ -35,13 +37,13 @@ struct Load {
 
 impl Model for Knapsack {
     ghost use Rattle.inst_text.specs.Knapsack.{Instance};
-    ghost use Rattle.bb_knap.specs.Prepared.{IsPrepared};
+    ghost use Rattle.bb_knap.specs.OrderAndSums.{IsOrderAndSums};
 
     ghost Value = { Instance };
 
     ghost view = { λ k. k.items };
 
-    ghost invariant = { λ k. IsPrepared k.items k.order.items k.weights.items k.values.items };
+    ghost invariant = { λ k. IsOrderAndSums k.items k.order.items k.sums.weights.items k.sums.values.items };
 }
 
 impl Knapsack {
@@ -50,14 +52,8 @@ impl Knapsack {
         ensures { IfOk result (λ k. k ≡ items) }
     {
         let order = item_order(alloc, items.items.as_slice())?;
-        let weights = weight_sums(alloc, &items, order.as_slice())?;
-        let values = value_sums(alloc, &items, order.as_slice())?;
-        Ok(Knapsack {
-            items,
-            order,
-            weights,
-            values,
-        })
+        let sums = sums_over(alloc, &items, order.as_slice())?;
+        Ok(Knapsack { items, order, sums })
     }
 
     /// The greatest weight that a feasible choice may have, at most 1,000,000,000,000. Constant time.
@@ -89,7 +85,7 @@ impl Knapsack {
         ensures { result ≡ total_value self.now.items }
     {
         let order = self.order.as_slice();
-        let values = self.values.as_slice();
+        let values = self.sums.values.as_slice();
         values[order.len()]
     }
 
@@ -124,7 +120,7 @@ impl Knapsack {
         KnapVerdict::Feasible
     }
 
-    /// What the chosen items weigh and are worth. Numbers that no item has add nothing.
+    // What the chosen items weigh and are worth. Numbers that no item has add nothing.
     fn load_of(&self, choice: &Choice) -> Load
         ensures weight { result.weight ≡ weight_of self.now.items choice.now }
         ensures value { result.value ≡ value_of self.now.items choice.now }
@@ -153,13 +149,13 @@ impl Knapsack {
     /// fit, and of the first that does not fit the part that fills the room, rounded down. O(log n).
     pub(crate) fn dantzig(&self, from: usize, room: u64) -> u32
         requires from { from ≤ length self.now.items }
-        requires room { room ≤ 1000000000000 }
+        requires room { room ≤ capacity_limit }
         ensures { result ≡ dantzig self.now.items room (drop from (order_of self.now.items)) }
     {
         let items = self.items();
         let order = self.order.as_slice();
-        let weights = self.weights.as_slice();
-        let values = self.values.as_slice();
+        let weights = self.sums.weights.as_slice();
+        let values = self.sums.values.as_slice();
         dantzig_from(items, order, weights, values, from, room)
     }
 }

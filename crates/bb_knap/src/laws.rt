@@ -1,3 +1,5 @@
+//! What holds of all choices of an instance.
+
 ghost use Rattle.std.specs.Prelude.{ℕ, ◌+◌, ◌≡◌, ◌≤◌, ◌↔◌, List};
 ghost use Rattle.inst_text.specs.Knapsack.{Instance, total_value};
 ghost use Rattle.bb_knap.specs.Plans.{IsChoiceOf, IsFeasible, IsBest, IsCheapest, value_of, cost_of};

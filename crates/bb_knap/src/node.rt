@@ -1,4 +1,7 @@
+//! A node of the tree of decisions.
+
 ghost use Rattle.std.specs.Prelude.{◌≡◌, ◌+◌, ◌-◌, ◌<◌, ◌≤◌, ◌^◌, [], ◌∷◌, ◌++◌, length, min, IfOk};
+ghost use Rattle.inst_text.specs.Limits.{item_limit, capacity_limit};
 ghost use Rattle.bb_knap.specs.Branching.{Node};
 
 use crate::decisions::Decisions;
@@ -18,23 +21,24 @@ pub struct KnapNode {
 
 impl Model for KnapNode {
     ghost use Rattle.std.specs.Prelude.{◌≤◌};
+    ghost use Rattle.inst_text.specs.Limits.{capacity_limit};
     ghost use Rattle.bb_knap.specs.Branching.{Node};
 
     ghost Value = { Node };
 
     ghost view = { λ n. record { decisions = n.decisions; room = n.room; value = n.value } };
 
-    ghost invariant = { λ n. n.room ≤ 1000000000000 };
+    ghost invariant = { λ n. n.room ≤ capacity_limit };
 }
 
 impl KnapNode {
     /// The node that decides nothing yet, with this room. Constant time.
-    pub(crate) fn root(alloc: Global, room: u64) -> KnapNode
-        requires { room ≤ 1000000000000 }
+    pub(crate) fn root(room: u64) -> KnapNode
+        requires { room ≤ capacity_limit }
         ensures { result ≡ record { decisions = []; room = room; value = 0 } }
     {
         KnapNode {
-            decisions: Decisions::none(alloc),
+            decisions: Decisions::none(),
             room,
             value: 0,
         }
@@ -50,7 +54,7 @@ impl KnapNode {
     /// The room that is left, at most 1,000,000,000,000. Constant time.
     pub(crate) fn room(&self) -> u64
         ensures room { result ≡ self.now.room }
-        ensures within { result ≤ 1000000000000 }
+        ensures within { result ≤ capacity_limit }
     {
         self.room
     }
@@ -62,9 +66,9 @@ impl KnapNode {
         self.value
     }
 
-    /// The child that takes the next item, this one, which fits. It copies the decisions.
+    /// The child that takes the next item, this one, which fits. Constant time; up to 127 decisions it takes no memory.
     pub(crate) fn taking(&self, alloc: Global, item: Item) -> Result<KnapNode, NoMemory>
-        requires depth { length self.now.decisions < 1024 }
+        requires depth { length self.now.decisions < item_limit }
         requires fits { item.weight ≤ self.now.room }
         ensures { IfOk result (λ child. child ≡ record {
           decisions = self.now.decisions ++ 1 ∷ [];
@@ -73,15 +77,15 @@ impl KnapNode {
         }) }
     {
         Ok(KnapNode {
-            decisions: self.decisions.copied(alloc)?.with(true)?,
+            decisions: self.decisions.copied(alloc)?.with(alloc, true)?,
             room: self.room - u64::from(item.weight),
             value: self.value.saturating_add(item.value),
         })
     }
 
-    /// The child that leaves the next item. Constant time, but for the times when the decisions grow.
-    pub(crate) fn leaving(self) -> Result<KnapNode, NoMemory>
-        requires { length self.decisions < 1024 }
+    /// The child that leaves the next item. Constant time; up to 127 decisions it takes no memory.
+    pub(crate) fn leaving(self, alloc: Global) -> Result<KnapNode, NoMemory>
+        requires { length self.decisions < item_limit }
         ensures { IfOk result (λ child. child ≡ record self { decisions = self.decisions ++ 0 ∷ [] }) }
     {
         let KnapNode {
@@ -90,7 +94,7 @@ impl KnapNode {
             value,
         } = self;
         Ok(KnapNode {
-            decisions: decisions.with(false)?,
+            decisions: decisions.with(alloc, false)?,
             room,
             value,
         })

@@ -1,5 +1,8 @@
+//! The order in which a search decides on the items.
+
 ghost use Rattle.std.specs.Prelude.{◌≡◌, ◌≤◌, length, IfOk};
 ghost use Rattle.std.specs.Ordering.{is_lt};
+ghost use Rattle.inst_text.specs.Limits.{item_limit};
 ghost use Rattle.bb_knap.specs.Plans.{item_at};
 ghost use Rattle.bb_knap.specs.Order.{is_denser, goes_before, order_of};
 
@@ -12,18 +15,14 @@ use std::cmp::Ordering;
 pub fn numbered_item(items: &[Item], number: u32) -> Item
     ensures { result ≡ item_at items.now number }
 {
-    let place = number as usize;
-    if place < items.len() {
-        items[place]
-    } else {
-        Item {
-            weight: 0,
-            value: 0,
-        }
-    }
+    let none = Item {
+        weight: 0,
+        value: 0,
+    };
+    items.get(number as usize).copied().unwrap_or(none)
 }
 
-/// Tells whether the first item is worth more for its weight, by products.
+// Tells whether the first item is worth more for its weight, by products.
 #[tactic(auto, unfolding(crate::specs::Order::is_denser))]
 fn worth_more(first: Item, second: Item) -> bool
     ensures { result ≡ is_denser first second }
@@ -35,7 +34,7 @@ fn worth_more(first: Item, second: Item) -> bool
         < u64::from(first.value) * u64::from(second.weight)
 }
 
-/// Tells whether the item with the first number stands before the item with the second.
+// Tells whether the item with the first number stands before the item with the second.
 #[tactic(auto, unfolding(crate::specs::Order::goes_before))]
 fn stands_before(items: &[Item], first: u32, second: u32) -> bool
     ensures { result ≡ goes_before items.now first second }
@@ -45,7 +44,7 @@ fn stands_before(items: &[Item], first: u32, second: u32) -> bool
     worth_more(one, other) || (!worth_more(other, one) && first < second)
 }
 
-/// How two numbers stand to each other in the order.
+// How two numbers stand to each other in the order.
 fn compared(items: &[Item], first: u32, second: u32) -> Ordering
     ensures { is_lt result ≡ goes_before items.now first second }
 {
@@ -58,7 +57,7 @@ fn compared(items: &[Item], first: u32, second: u32) -> Ordering
 
 /// The numbers of the items in the order in which a search decides on them. O(n log n).
 pub fn item_order(alloc: Global, items: &[Item]) -> Result<Vec<u32>, NoMemory>
-    requires { length items.now ≤ 1024 }
+    requires { length items.now ≤ item_limit }
     ensures { IfOk result (λ order. order.items ≡ order_of items.now) }
 {
     let mut order = Vec::new(alloc);

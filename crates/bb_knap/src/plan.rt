@@ -1,3 +1,5 @@
+//! The choice that decisions take.
+
 ghost use Rattle.std.specs.Prelude.{◌≡◌, ◌≤◌, length, IfOk};
 ghost use Rattle.inst_text.specs.Knapsack.{IsInstance};
 ghost use Rattle.bb_knap.specs.Branching.{IsPlanOf};

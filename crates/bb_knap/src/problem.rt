@@ -1,8 +1,10 @@
+//! The knapsack as a problem that a search can be given.
+
 ghost use Rattle.std.specs.Prelude.{ℕ, List, IfOk};
 ghost use Rattle.inst_text.specs.Knapsack.{IsInstance};
 ghost use Rattle.bb_problem.specs.Expanding.{IsExpanded, IsInRange, IfLeaf};
 ghost use Rattle.bb_knap.specs.Plans.{cost_of};
-ghost use Rattle.bb_knap.specs.Laws.TreeLaws.{lawful};
+ghost use Rattle.bb_knap.specs.TreeLawsHold.Tree.{lawful};
 ghost use Rattle.bb_knap.specs.Branching.{Stands, IsPlanOf, meaning_of};
 
 use crate::knapsack::Knapsack;
@@ -26,8 +28,8 @@ impl Problem for Knapsack {
     ghost meaning = { meaning_of };
 
     /// The node that decides nothing. Constant time.
-    fn root(&self, alloc: Global) -> Result<KnapNode, NoMemory> {
-        Ok(KnapNode::root(alloc, self.capacity()))
+    fn root(&self, _alloc: Global) -> Result<KnapNode, NoMemory> {
+        Ok(KnapNode::root(self.capacity()))
     }
 
     /// The sum of all values, but those of the taken items and Dantzig's bound of the rest. O(log n).
@@ -45,7 +47,8 @@ impl Problem for Knapsack {
         ensures expanded { IfOk result (λ step. (name : List ℕ) → Stands self.now node name →
             IsExpanded (meaning_of self.now) name step) }
         // A leaf has just the items that its decisions take.
-        ensures leaf { IfOk result (λ step. (name : List ℕ) → Stands self.now node name → IfLeaf (IsPlanOf self.now name) step) }
+        ensures leaf { IfOk result (λ step. (name : List ℕ) → Stands self.now node name →
+            IfLeaf (IsPlanOf self.now name) step) }
     {
         let items = self.items();
         let order = self.order();
@@ -58,7 +61,7 @@ impl Problem for Knapsack {
         if u64::from(item.weight) <= node.room() {
             children.push(node.taking(alloc, item)?)?;
         }
-        children.push(node.leaving()?)?;
+        children.push(node.leaving(alloc)?)?;
         Ok(Step::Branch(children))
     }
 

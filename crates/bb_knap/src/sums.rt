@@ -1,3 +1,5 @@
+//! Sums of weights and of values over an order.
+
 ghost use Rattle.std.specs.Prelude.{◌≡◌, IfOk};
 ghost use Rattle.bb_knap.specs.Plans.{weight_of, value_of};
 ghost use Rattle.bb_knap.specs.Order.{order_of};
@@ -8,32 +10,29 @@ use inst_text::Items;
 use pq_io::NoMemory;
 use std::alloc::Global;
 
-/// At each k up to the number of items, the weight of the first k in the order. One pass.
-pub fn weight_sums(alloc: Global, items: &Items, order: &[u32]) -> Result<Vec<u64>, NoMemory>
-    requires { order.now ≡ order_of items.now.items }
-    ensures { IfOk result (λ sums. AreSums (weight_of items.now.items) order.now sums.items) }
-{
-    let mut sum = 0;
-    let mut sums = Vec::new(alloc);
-    sums.push(sum)?;
-    for number in order {
-        sum += u64::from(numbered_item(items.items.as_slice(), *number).weight);
-        sums.push(sum)?;
-    }
-    Ok(sums)
+/// At each k up to the number of items, what the first k of an order weigh and are worth together.
+#[derive(Debug, Drop)]
+pub struct Sums {
+    pub weights: Vec<u64>,
+    pub values: Vec<u32>,
 }
 
-/// At each k up to the number of items, the value of the first k in the order. One pass.
-pub fn value_sums(alloc: Global, items: &Items, order: &[u32]) -> Result<Vec<u32>, NoMemory>
+/// The sums over this order, which has all items. One pass.
+pub fn sums_over(alloc: Global, items: &Items, order: &[u32]) -> Result<Sums, NoMemory>
     requires { order.now ≡ order_of items.now.items }
-    ensures { IfOk result (λ sums. AreSums (value_of items.now.items) order.now sums.items) }
+    ensures weights { IfOk result (λ sums. AreSums (weight_of items.now.items) order.now sums.weights.items) }
+    ensures values { IfOk result (λ sums. AreSums (value_of items.now.items) order.now sums.values.items) }
 {
-    let mut sum = 0;
-    let mut sums = Vec::new(alloc);
-    sums.push(sum)?;
+    let mut weight = 0;
+    let mut value = 0;
+    let mut weights = vec![in alloc; weight]?;
+    let mut values = vec![in alloc; value]?;
     for number in order {
-        sum += numbered_item(items.items.as_slice(), *number).value;
-        sums.push(sum)?;
+        let item = numbered_item(items.items.as_slice(), *number);
+        weight += u64::from(item.weight);
+        value += item.value;
+        weights.push(weight)?;
+        values.push(value)?;
     }
-    Ok(sums)
+    Ok(Sums { weights, values })
 }

@@ -1,3 +1,5 @@
+//! Small knapsacks by hand.
+
 ghost use Rattle.std.specs.Prelude.{◌≡◌, IfOk};
 ghost use Rattle.inst_text.specs.Knapsack.{IsInstance, AreNumbers};
 

@@ -1,3 +1,5 @@
+//! What is found of a choice.
+
 /// What is found of a choice of items and the value that is stated for it.
 #[derive(Clone, Copy, Debug, PartialEq, Eq)]
 pub enum KnapVerdict {

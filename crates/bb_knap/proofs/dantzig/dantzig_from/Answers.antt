@@ -1,8 +1,11 @@
 use Rattle.std.proofs.Common.{◌≡◌, ◌+◌, ◌-◌, ◌<◌, ◌≤◌, length, get_or, sym, ap, ◌∙◌, arith}
 use Rattle.std.proofs.lemmas.Nat.{mul-lt}
 use Rattle.bb_knap.specs.Plans.{item_at}
-use Rattle.bb_knap.proofs.Prefixes.{is_break, part-le, weight_of-take-le, value_of-take-mono, dantzig-at_end, dantzig-at_break}
+use Rattle.bb_knap.proofs.Prefixes.{weight_sums-rise, is_break, part-le, weight_of-take-le, value_of-take-mono, dantzig-at_end, dantzig-at_break}
 use Rattle.bb_knap.proofs.dantzig.dantzig_from.Goals as goal
+
+pub break_place-place-requires-clause-rising : goal.break_place-place-requires-clause-rising
+break_place-place-requires-clause-rising c = weight_sums-rise c.args.items.now c.args.order.now c.args.weights.now c.requires.weights
 
 pub overflow_add-limit : goal.overflow_add-limit
 overflow_add-limit c =

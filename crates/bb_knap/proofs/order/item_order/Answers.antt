@@ -5,9 +5,9 @@ use Rattle.std.specs.Ordering.{is_lt}
 use Rattle.std.specs.List.Sorted.{IsSortedBy}
 use Rattle.bb_problem.specs.Tree.{total}
 use Rattle.bb_knap.specs.Order.{goes_before}
-use Rattle.bb_knap.specs.Laws.Denser.{is_order}
-use Rattle.bb_knap.specs.Laws.Ordered.{IsInOrder-at}
-use Rattle.bb_knap.specs.Laws.InOrder.{sum_below, total-append, is_order_below}
+use Rattle.bb_knap.specs.TreeLawsHold.Denser.{is_order}
+use Rattle.bb_knap.specs.TreeLawsHold.Ordered.{IsInOrder-at}
+use Rattle.bb_knap.specs.TreeLawsHold.InOrder.{sum_below, total-append, is_order_below}
 use Rattle.bb_knap.proofs.order.item_order.Goals as goal
 
 pub loop-number-preserved : goal.loop-number-preserved

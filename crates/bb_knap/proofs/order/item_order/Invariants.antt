@@ -1,6 +1,6 @@
 use Rattle.std.proofs.Common.{◌≡◌, ℕ}
 use Rattle.bb_problem.specs.Tree.{total}
-use Rattle.bb_knap.specs.Laws.InOrder.{sum_below}
+use Rattle.bb_knap.specs.TreeLawsHold.InOrder.{sum_below}
 use Rattle.bb_knap.proofs.order.item_order.Given as goal
 
 -- each number below the next one is there once

@@ -1,10 +1,11 @@
 use Rattle.std.proofs.Common.{◌≡◌, ℕ, ◌≤◌, subst, ◌<◌, List, [], ◌∷◌, ◌++◌, length, get_or, sym, ap, ◌∙◌, arith}
 use Rattle.std.specs.List.Sorted.{IsPermutation}
 use Rattle.std.proofs.lemmas.List.{take_all}
+use Rattle.inst_text.specs.Limits.{item_limit}
 use Rattle.bb_knap.specs.Order.{order_of}
 use Rattle.bb_knap.specs.Branching.{taken, taken_of}
-use Rattle.bb_knap.specs.Laws.InOrder.{length-order_below}
-use Rattle.bb_knap.specs.Laws.Taken.{taken-nothing}
+use Rattle.bb_knap.specs.TreeLawsHold.InOrder.{length-order_below}
+use Rattle.bb_knap.specs.TreeLawsHold.Taken.{taken-nothing}
 use Rattle.bb_knap.proofs.Chosen.{taken-more, taken-same, is_plan, AreNumbers-more}
 use Rattle.bb_knap.proofs.plan.plan.Goals as goal
 use Rattle.bb_knap.proofs.plan.plan.Goals.{then-takes+in_ok-push, else-takes}
@@ -40,7 +41,7 @@ invariant_of-result c =
     let e : c.loop-place.numbers.items ≡ taken_of i c.args.decisions.now = c.loop-place.invariant ∙ ap (λ ks. taken ks c.args.decisions.now) (take_all c.loop-place.place (order_of i.items) end) in
     let P : List ℕ → Type 0 = λ xs. IsPermutation xs c.sort.new.self.items in
     let plan = is_plan i c.args.decisions.now c.sort.new.self.items (subst P e c.in_ok-sort.ensures.permutation) c.in_ok-sort.ensures.sorted in
-    AreNumbers-more 0 (length i.items) 1024 c.sort.new.self.items c.requires.limits.count plan.chosen
+    AreNumbers-more 0 (length i.items) item_limit c.sort.new.self.items c.requires.limits.count plan.chosen
 
 pub returns : goal.returns
 returns c =

@@ -1,6 +1,6 @@
 use Rattle.std.proofs.Common.{◌≡◌, length, ap, ◌∙◌, arith}
 use Rattle.bb_knap.specs.Order.{order_of}
-use Rattle.bb_knap.specs.Laws.InOrder.{length-order_below}
+use Rattle.bb_knap.specs.TreeLawsHold.InOrder.{length-order_below}
 use Rattle.bb_knap.proofs.Prefixes.{weight_of-order-le, value_of-order}
 use Rattle.bb_knap.proofs.knapsack.Knapsack.dantzig.Goals as goal
 

@@ -3,7 +3,7 @@ use Rattle.std.specs.Prelude.{min}
 use Rattle.bb_knap.specs.Plans.{item_at}
 use Rattle.bb_knap.specs.Order.{order_of}
 use Rattle.bb_knap.specs.Branching.{IsPlanOf}
-use Rattle.bb_knap.specs.Laws.InOrder.{length-order_below}
+use Rattle.bb_knap.specs.TreeLawsHold.InOrder.{length-order_below}
 use Rattle.bb_knap.proofs.Expanded.{next_of, leaf_is, both_stand, one_stands}
 use Rattle.bb_knap.proofs.problem.KnapsackProblem.expand.Goals as goal
 use Rattle.bb_knap.proofs.problem.KnapsackProblem.expand.Goals.{then-from-room+in_ok-taking+in_ok-push, else-from-room}

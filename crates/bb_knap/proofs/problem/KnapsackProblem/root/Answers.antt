@@ -2,7 +2,7 @@ use Rattle.std.proofs.Common.{◌≡◌, [], ap, arith}
 use Rattle.bb_knap.specs.Order.{order_of}
 use Rattle.bb_knap.specs.Plans.{weight_of, value_of}
 use Rattle.bb_knap.specs.Branching.{taken_of}
-use Rattle.bb_knap.specs.Laws.Taken.{taken-none}
+use Rattle.bb_knap.specs.TreeLawsHold.Taken.{taken-none}
 use Rattle.bb_knap.proofs.problem.KnapsackProblem.root.Goals as goal
 
 pub returns-clause-root : goal.returns-clause-root

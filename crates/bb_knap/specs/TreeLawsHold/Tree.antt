@@ -13,10 +13,10 @@ use Rattle.inst_text.specs.Knapsack.{Instance, IsInstance, total_value}
 use Rattle.bb_knap.specs.Plans.{item_at, weight_of, value_of, IsFeasible, cost_of}
 use Rattle.bb_knap.specs.Order.{goes_before, order_of}
 use Rattle.bb_knap.specs.Branching.{taken, dantzig, taken_of, rest_of, room_of, bound_of, choices_at, children_of, tree_of, tree_size, Reaches, least_cost, root_bound, meaning_of}
-use Rattle.bb_knap.specs.Laws.InOrder.{weight_of-append, value_of-append, total-order_below, IsInOrder-order_below, IsInOrder-drop, length-order_below, weight_of-total, value_of-total}
-use Rattle.bb_knap.specs.Laws.Dantzig.{dantzig_law}
-use Rattle.bb_knap.specs.Laws.Taken.{taken-append, taken-none, taken-left, taken-taken, decisions_for, is_among, where_, total-decided, sum_below-among}
-use Rattle.bb_knap.specs.Laws.Best.{best_is_attained, best_is_greatest}
+use Rattle.bb_knap.specs.TreeLawsHold.InOrder.{weight_of-append, value_of-append, total-order_below, IsInOrder-order_below, IsInOrder-drop, length-order_below, weight_of-total, value_of-total}
+use Rattle.bb_knap.specs.TreeLawsHold.Dantzig.{dantzig_law}
+use Rattle.bb_knap.specs.TreeLawsHold.Taken.{taken-append, taken-none, taken-left, taken-taken, decisions_for, is_among, where_, total-decided, sum_below-among}
+use Rattle.bb_knap.specs.TreeLawsHold.Best.{best_is_attained, best_is_greatest}
 
 -- the decisions for a choice take what it has
 total-chosen : (i : Instance) (choice : List ℕ) → IsFeasible i choice → (f : ℕ → ℕ) → total f (taken_of i (decisions_for choice (order_of i.items))) ≡ total f choice

@@ -8,8 +8,8 @@ use Rattle.bb_problem.specs.Tree.{total}
 use Rattle.inst_text.specs.declared.knapsack.Item.{Item}
 use Rattle.bb_knap.specs.Plans.{item_at, weight_of, value_of}
 use Rattle.bb_knap.specs.Order.{goes_before, inserted, order_below}
-use Rattle.bb_knap.specs.Laws.Denser.{is_order, same_place}
-use Rattle.bb_knap.specs.Laws.Ordered.{NoneBefore, NoneBefore-chain, IsInOrder, same_lists}
+use Rattle.bb_knap.specs.TreeLawsHold.Denser.{is_order, same_place}
+use Rattle.bb_knap.specs.TreeLawsHold.Ordered.{NoneBefore, NoneBefore-chain, IsInOrder, same_lists}
 
 -- f of each number below n, added up
 abbrev pub sum_below : (ℕ → ℕ) → ℕ → ℕ

@@ -8,8 +8,8 @@ use Rattle.inst_text.specs.declared.knapsack.Item.{Item}
 use Rattle.bb_knap.specs.Plans.{item_at, weight_of, value_of}
 use Rattle.bb_knap.specs.Order.{goes_before}
 use Rattle.bb_knap.specs.Branching.{taken, dantzig}
-use Rattle.bb_knap.specs.Laws.Denser.{ratio_behind}
-use Rattle.bb_knap.specs.Laws.Ordered.{NoneBefore, IsInOrder}
+use Rattle.bb_knap.specs.TreeLawsHold.Denser.{ratio_behind}
+use Rattle.bb_knap.specs.TreeLawsHold.Ordered.{NoneBefore, IsInOrder}
 
 -- no decision takes nothing
 pub taken-none : (ks : List ℕ) → taken ks [] ≡ []

@@ -6,7 +6,7 @@ use Rattle.std.proofs.lemmas.Bool.Decides.{eqb_tells}
 use Rattle.inst_text.specs.Knapsack.{AreNumbers}
 use Rattle.bb_problem.specs.Tree.{total}
 use Rattle.bb_knap.specs.Branching.{taken}
-use Rattle.bb_knap.specs.Laws.InOrder.{sum_below}
+use Rattle.bb_knap.specs.TreeLawsHold.InOrder.{sum_below}
 
 -- what more decisions take comes behind
 pub taken-append : (ks ds es : List ℕ) → taken ks (ds ++ es) ≡ taken ks ds ++ taken (drop (length ds) ks) es

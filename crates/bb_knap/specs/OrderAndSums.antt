@@ -6,7 +6,7 @@ use Rattle.bb_knap.specs.Order.{order_of}
 use Rattle.bb_knap.specs.Sums.{AreSums}
 
 -- the items' order, and the sums of weights and of values over it
-pub record IsPrepared (i : Instance) (order weights values : List ℕ) : Type 0 where
+pub record IsOrderAndSums (i : Instance) (order weights values : List ℕ) : Type 0 where
   pub order_is : order ≡ order_of i.items
   pub weight_sums : AreSums (weight_of i.items) order weights
   pub value_sums : AreSums (value_of i.items) order values
