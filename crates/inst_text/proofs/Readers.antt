@@ -3,14 +3,14 @@ use Rattle.std.proofs.Common.{◌≡◌, ℕ, ◌≤◌, true, cond, leb, List, 
 use Rattle.std.specs.Prelude.{IfOk}
 use Rattle.std.proofs.lemmas.Bool.{leb-true, le-leb}
 use Rattle.std.proofs.lemmas.List.{append-nil}
-use Rattle.pq_io.specs.declared.text.fault.Cause.TheVariants.{TooLarge}
 use Rattle.pq_io.specs.declared.text.fault.BadInput.{BadInput}
 use Rattle.pq_io.specs.declared.text.fault.ReadRefusal.{ReadRefusal}
+use Rattle.pq_io.specs.Inputs.{longest_input, too_large, text_within}
 use Rattle.pq_io.specs.Lines.{Line, Text, text_of}
 use Rattle.pq_io.specs.Reading.{◌>>=◌, Read, Gives, at_text_end}
 use Rattle.pq_io.proofs.Binds.{ok_is, bind_ok, guard_ok}
 use Rattle.pq_io.proofs.Taken.{text_ends, text_end_found}
-use Rattle.inst_text.specs.Several.{both, text_within, whole}
+use Rattle.inst_text.specs.Several.{both, whole}
 
 -- the first lines of a text mean what was read
 pub record Prefix {A : Type 0} (Means : List Line → A → Type 0) (text : Text) (x : Read A Text) : Type 0 where
@@ -63,21 +63,21 @@ both_read p q First Second f s = record { taken = both_taken p q First Second f 
 
 -- the bytes are not too many, and their lines mean the value
 pub record WholeMeans {A : Type 0} (Means : List Line → A → Type 0) (bytes : List ℕ) (a : A) : Type 0 where
-  pub size : length bytes ≤ 67108864
+  pub size : length bytes ≤ longest_input
   pub means : Means (text_of bytes).lines a
 
 pub whole_taken : {A : Type 0} (read : Text → Result (Read A Text) BadInput) (Means : List Line → A → Type 0) → IsReader read Means → (bytes : List ℕ) (a : A) → whole read bytes ≡ Ok a → WholeMeans Means bytes a
 unfolding whole
 whole_taken {A = A} read Means r bytes a e =
     let p = bind_ok (text_within bytes) (λ text. read text >>= λ x. at_text_end x.rest.lines >>= λ end. Ok x.value) a e in
-    let g = guard_ok (leb (length bytes) 67108864) (text_of bytes) p.0 (record { line = 0; cause = TooLarge }) p.1 in
+    let g = guard_ok (leb (length bytes) longest_input) (text_of bytes) p.0 too_large p.1 in
     let q = bind_ok (read p.0) (λ x. at_text_end x.rest.lines >>= λ end. Ok x.value) a p.2 in
     let z = bind_ok (at_text_end q.0.rest.lines) (λ end. Ok q.0.value) a q.2 in
     let f = r.taken p.0 q.0 q.1 in
     let all : f.lines ≡ p.0.lines = sym (f.first ∙ ap (λ (t : List Line). f.lines ++ t) (text_ends q.0.rest.lines z.0 z.1) ∙ append-nil f.lines) in
     let here : f.lines ≡ (text_of bytes).lines = all ∙ ap (λ (t : Text). t.lines) (sym g.1) in
     record {
-      size = leb-true (length bytes) 67108864 g.0;
+      size = leb-true (length bytes) longest_input g.0;
       means = subst (λ (ls : List Line). Means ls a) here (subst (λ (b : A). Means f.lines b) (ok_is q.0.value a z.2) f.means);
     }
 
@@ -85,11 +85,11 @@ pub whole_found : {A : Type 0} (read : Text → Result (Read A Text) BadInput) (
 unfolding whole
 whole_found {A = A} read Means r bytes a w =
     let text = text_of bytes in
-    let fits : leb (length bytes) 67108864 ≡ true = le-leb (length bytes) 67108864 w.size in
+    let fits : leb (length bytes) longest_input ≡ true = le-leb (length bytes) longest_input w.size in
     let e : read (record { lines = text.lines ++ []; end = text.end }) ≡ Ok (record { value = a; rest = record { lines = []; end = text.end } }) = r.found text.lines [] text.end a w.means in
     let f : read text ≡ Ok (record { value = a; rest = record { lines = []; end = text.end } }) =
     ap (λ (ls : List Line). read (record { lines = ls; end = text.end })) (sym (append-nil text.lines)) ∙ e in
-    let opened : text_within bytes ≡ Ok text = ap (λ b. cond b (Ok text) (Err (record { line = 0; cause = TooLarge }))) fits in
+    let opened : text_within bytes ≡ Ok text = ap (λ b. cond b (Ok text) (Err too_large)) fits in
     rw (opened, f, text_end_found) refl
 
 -- What reading gives is so, and what is so reading gives: then a call that says what reading gives tells it.

@@ -3,6 +3,7 @@ use Rattle.std.proofs.Common.{◌≡◌, ℕ, ◌+◌, ◌*◌, ◌<◌, ◌≤�
 use Rattle.std.specs.List.{AllByRecursion}
 use Rattle.std.proofs.lemmas.List.{length-append, append_assoc}
 use Rattle.std.proofs.lemmas.Fmt.{length-decimal-le}
+use Rattle.pq_io.specs.Inputs.{longest_input}
 use Rattle.pq_io.specs.Lines.{Line, Text, text_of}
 use Rattle.pq_io.specs.Writing.{words_text, lines_text, lines_from, IsPlainLine}
 use Rattle.pq_io.proofs.Plain.{text_again}
@@ -87,6 +88,6 @@ two_texts First Second ls ks a b m n v w =
     ap (λ (t : List ℕ). (text_of t).lines) (sym (lines_text-append ls ks)) ∙ lines_again (ls ++ ks) (plain-append ls ks v.plain w.plain) in
     record { prefix = lines_from 1 ls; suffix = lines_from (1 + length ls) ks; lines_are = whole ∙ lines_from-append 1 ls ks; first = v.means 1; second = w.means (1 + length ls) }
 
-pub two_short : {A B : Type 0} (First : List Line → A → Type 0) (Second : List Line → B → Type 0) (ls ks : List Words) (a : A) (b : B) (m n : ℕ) → Writes First ls a m → Writes Second ks b n → m + n ≤ 67108864
-    → length (lines_text ls ++ lines_text ks) ≤ 67108864
+pub two_short : {A B : Type 0} (First : List Line → A → Type 0) (Second : List Line → B → Type 0) (ls ks : List Words) (a : A) (b : B) (m n : ℕ) → Writes First ls a m → Writes Second ks b n → m + n ≤ longest_input
+    → length (lines_text ls ++ lines_text ks) ≤ longest_input
 two_short First Second ls ks a b m n v w le = omega (arith, length-append (lines_text ls) (lines_text ks), v.short, w.short, le)

@@ -3,6 +3,7 @@ use Rattle.std.proofs.Common.{◌≡◌, ℕ, ◌+◌, ◌<◌, ◌≤◌, ◌^�
 use Rattle.std.specs.List.{AllByRecursion}
 use Rattle.pq_io.specs.Writing.{words_text, IsPlainLine}
 use Rattle.pq_io.proofs.Plain.{decimal_plain, decimal_digits}
+use Rattle.pq_io.specs.Inputs.{longest_input}
 use Rattle.inst_text.specs.Limits.{weight_limit, total_limit}
 use Rattle.inst_text.specs.declared.knapsack.Item.{Item}
 use Rattle.inst_text.specs.Knapsack.{Instance, IsInstance, total_value, SpellsTwo, SpellKnapsack, two_words, knapsack_lines, knapsack_text, knapsack_of}
@@ -76,5 +77,5 @@ instance_written i limits =
 pub instance_is_read : (i : Instance) → IsInstance i → knapsack_of (knapsack_text i) ≡ Ok i
 instance_is_read i limits =
     let w = instance_written i limits in
-    let size : length (knapsack_text i) ≤ 67108864 = omega (arith, w.short) in
+    let size : length (knapsack_text i) ≤ longest_input = omega (arith, w.short) in
     knapsack_is_read (knapsack_text i) i (record { size = size; lines = one_text SpellKnapsack (knapsack_lines i) i 20500 w; limits = limits })

@@ -3,6 +3,7 @@ use Rattle.std.proofs.Common.{◌≡◌, ℕ, ◌+◌, ◌*◌, ◌≤◌, List,
 use Rattle.std.specs.List.{AllByRecursion}
 use Rattle.pq_io.specs.Writing.{words_text, IsPlainWord, IsPlainLine}
 use Rattle.pq_io.proofs.Plain.{decimal_plain, decimal_digits}
+use Rattle.pq_io.specs.Inputs.{longest_input}
 use Rattle.inst_text.specs.Limits.{item_limit, machine_limit, total_limit, stated_limit}
 use Rattle.inst_text.specs.declared.plan.Claimed.{Claimed}
 use Rattle.inst_text.specs.Knapsack.{Instance, IsInstance, AreNumbers, SpellKnapsack, IsKnapsackText, knapsack_lines, knapsack_text, choice_lines, choice_text}
@@ -92,7 +93,7 @@ choice_text_is_read i c limits stated are =
 
 -- behind any text of the instance
 pub choice_behind_is_read : (bytes : List ℕ) (i : Instance) (c : Claimed (List ℕ)) → IsKnapsackText (bytes ++ 10 ∷ []) i → c.stated ≤ stated_limit → AreNumbers 0 (length i.items) c.plan
-    → length (bytes ++ 10 ∷ choice_text c.stated c.plan) ≤ 67108864 → knapsack_plan_of (bytes ++ 10 ∷ choice_text c.stated c.plan) ≡ Ok (i, c)
+    → length (bytes ++ 10 ∷ choice_text c.stated c.plan) ≤ longest_input → knapsack_plan_of (bytes ++ 10 ∷ choice_text c.stated c.plan) ≡ Ok (i, c)
 choice_behind_is_read bytes i c text stated are size =
     let limits = text.limits in
     let w = choice_written (length i.items) c limits.count stated are in
@@ -168,7 +169,7 @@ starts_text_is_read s c limits stated are =
 
 -- behind any text of the shop
 pub starts_behind_are_read : (bytes : List ℕ) (s : JobShop) (c : Claimed (List (List ℕ))) → IsShopText (bytes ++ 10 ∷ []) s → c.stated ≤ stated_limit → AreStartsOf s c.plan
-    → length (bytes ++ 10 ∷ starts_text c.stated c.plan) ≤ 67108864 → shop_plan_of (bytes ++ 10 ∷ starts_text c.stated c.plan) ≡ Ok (s, c)
+    → length (bytes ++ 10 ∷ starts_text c.stated c.plan) ≤ longest_input → shop_plan_of (bytes ++ 10 ∷ starts_text c.stated c.plan) ≡ Ok (s, c)
 starts_behind_are_read bytes s c text stated are size =
     let w = starts_written s c text.limits stated are in
     shop_plan_is_read (bytes ++ 10 ∷ starts_text c.stated c.plan) s c

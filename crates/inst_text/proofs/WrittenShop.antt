@@ -3,6 +3,7 @@ use Rattle.std.proofs.Common.{◌≡◌, ℕ, ◌+◌, ◌*◌, ◌<◌, ◌≤�
 use Rattle.std.specs.List.{AllByRecursion}
 use Rattle.pq_io.specs.Writing.{words_text, IsPlainWord, IsPlainLine}
 use Rattle.pq_io.proofs.Plain.{decimal_plain, decimal_digits}
+use Rattle.pq_io.specs.Inputs.{longest_input}
 use Rattle.inst_text.specs.Limits.{machine_limit, total_limit}
 use Rattle.inst_text.specs.declared.shop.Operation.{Operation}
 use Rattle.inst_text.specs.Knapsack.{two_words}
@@ -94,5 +95,5 @@ shop_written s limits =
 pub shop_text_is_read : (s : JobShop) → IsJobShop s → shop_of (shop_text s) ≡ Ok s
 shop_text_is_read s limits =
     let w = shop_written s limits in
-    let size : length (shop_text s) ≤ 67108864 = omega (arith, w.short) in
+    let size : length (shop_text s) ≤ longest_input = omega (arith, w.short) in
     shop_is_read (shop_text s) s (record { size = size; lines = one_text SpellShop (shop_lines s) s 120200 w; limits = limits })

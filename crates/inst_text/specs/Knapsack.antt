@@ -4,6 +4,7 @@ use Rattle.std.specs.List.{AllByRecursion}
 use Rattle.std.specs.Fmt.{decimal}
 use Rattle.pq_io.specs.declared.text.fault.Cause.{Cause}
 use Rattle.pq_io.specs.declared.text.fault.BadInput.{BadInput}
+use Rattle.pq_io.specs.Inputs.{longest_input}
 use Rattle.pq_io.specs.Lines.{Line, Text, text_of}
 use Rattle.pq_io.specs.Reading.{◌>>=◌, Read, Spells, number_at, at_line_end, line_at}
 use Rattle.pq_io.specs.Writing.{lines_text}
@@ -79,7 +80,7 @@ SpellKnapsack (l ∷ ls) i = SpellsTwo l.words (length i.items) i.capacity × Sp
 
 -- A text of this instance: its lines spell an instance within the limits, and it is not too long.
 pub record IsKnapsackText (bytes : List ℕ) (i : Instance) : Type 0 where
-  pub size : length bytes ≤ 67108864
+  pub size : length bytes ≤ longest_input
   pub lines : SpellKnapsack (text_of bytes).lines i
   pub limits : IsInstance i
 

@@ -4,6 +4,7 @@ use Rattle.std.specs.List.{AllByRecursion}
 use Rattle.pq_io.specs.declared.text.fault.Cause.{Cause}
 use Rattle.pq_io.specs.declared.text.fault.Cause.TheVariants.{Range}
 use Rattle.pq_io.specs.declared.text.fault.BadInput.{BadInput}
+use Rattle.pq_io.specs.Inputs.{longest_input}
 use Rattle.pq_io.specs.Lines.{Line, Text, text_of}
 use Rattle.pq_io.specs.Reading.{◌>>=◌, Read, Spells, number_at, number_of, word_at, after_word, at_line_end, line_at}
 use Rattle.inst_text.specs.declared.plan.Claimed.{Claimed}
@@ -123,7 +124,7 @@ pub record AreStartsOf (s : JobShop) (rows : List (List ℕ)) : Type 0 where
 
 -- A text of this instance with this plan behind it, a choice of its items.
 pub record IsKnapsackPlanText (bytes : List ℕ) (i : Instance) (c : Claimed (List ℕ)) : Type 0 where
-  pub size : length bytes ≤ 67108864
+  pub size : length bytes ≤ longest_input
   pub lines : Follow SpellKnapsack SpellChoice (text_of bytes).lines i c
   pub limits : IsInstance i
   pub stated : c.stated ≤ stated_limit
@@ -131,7 +132,7 @@ pub record IsKnapsackPlanText (bytes : List ℕ) (i : Instance) (c : Claimed (Li
 
 -- A text of this shop with this plan behind it, start times of its operations.
 pub record IsShopPlanText (bytes : List ℕ) (s : JobShop) (c : Claimed (List (List ℕ))) : Type 0 where
-  pub size : length bytes ≤ 67108864
+  pub size : length bytes ≤ longest_input
   pub lines : Follow SpellShop SpellStarts (text_of bytes).lines s c
   pub limits : IsJobShop s
   pub stated : c.stated ≤ stated_limit

@@ -1,9 +1,9 @@
 -- Reading one after the other, and reading a whole text.
-use Rattle.std.specs.Prelude.{ℕ, zero, suc, nat_le, if◌then◌else◌, ◌≡◌, List, [], ◌∷◌, ◌++◌, length, Result, Ok, Err}
+use Rattle.std.specs.Prelude.{ℕ, zero, suc, ◌≡◌, List, [], ◌∷◌, ◌++◌, Result, Ok}
 use Rattle.pq_io.specs.declared.text.fault.Cause.{Cause}
-use Rattle.pq_io.specs.declared.text.fault.Cause.TheVariants.{TooLarge}
 use Rattle.pq_io.specs.declared.text.fault.BadInput.{BadInput}
-use Rattle.pq_io.specs.Lines.{Line, Text, text_of}
+use Rattle.pq_io.specs.Inputs.{text_within}
+use Rattle.pq_io.specs.Lines.{Line, Text}
 use Rattle.pq_io.specs.Reading.{◌>>=◌, Read, on_line, at_text_end}
 
 -- n readings one after the other: each is made in a state, and what it read says in which state the next one is made.
@@ -41,10 +41,6 @@ pub record Follow {A B : Type 0} (First : List Line → A → Type 0) (Second : 
   pub lines_are : lines ≡ prefix ++ suffix
   pub first : First prefix a
   pub second : Second suffix b
-
--- the text of these bytes, of which there are at most 67,108,864
-abbrev pub text_within : List ℕ → Result Text BadInput
-text_within bytes = if nat_le (length bytes) 67108864 then Ok (text_of bytes) else Err (record { line = 0; cause = TooLarge })
 
 -- what a whole text reads as: no line is left behind it
 unfoldable pub whole : {A : Type 0} → (Text → Result (Read A Text) BadInput) → List ℕ → Result A BadInput

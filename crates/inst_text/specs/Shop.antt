@@ -6,6 +6,7 @@ use Rattle.std.specs.Fmt.{decimal}
 use Rattle.pq_io.specs.declared.text.fault.Cause.{Cause}
 use Rattle.pq_io.specs.declared.text.fault.Cause.TheVariants.{Range}
 use Rattle.pq_io.specs.declared.text.fault.BadInput.{BadInput}
+use Rattle.pq_io.specs.Inputs.{longest_input}
 use Rattle.pq_io.specs.Lines.{Line, Text, text_of}
 use Rattle.pq_io.specs.Reading.{◌>>=◌, Read, Spells, number_at, at_line_end, line_at}
 use Rattle.pq_io.specs.Writing.{lines_text}
@@ -112,7 +113,7 @@ SpellShop (l ∷ ls) s = SpellsTwo l.words (length s.rows) s.machines × EachLin
 
 -- A text of this shop: its lines spell a shop within the limits, and it is not too long.
 pub record IsShopText (bytes : List ℕ) (s : JobShop) : Type 0 where
-  pub size : length bytes ≤ 67108864
+  pub size : length bytes ≤ longest_input
   pub lines : SpellShop (text_of bytes).lines s
   pub limits : IsJobShop s
 

@@ -55,6 +55,3 @@ impl Model for Choice {
 
     ghost invariant = { λ c. AreNumbers 0 item_limit c.numbers.items };
 }
-
-#[cfg(test)]
-mod tests;

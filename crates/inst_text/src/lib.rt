@@ -5,7 +5,8 @@ mod knapsack;
 mod limits;
 mod plan;
 mod shop;
-mod size;
+#[cfg(test)]
+mod tests;
 
 pub use knapsack::{
     Choice, Item, Items, knapsack_texts_are_read, next_knapsack, read_knapsack, write_choice,

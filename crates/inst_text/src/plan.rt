@@ -21,6 +21,3 @@ pub struct Claimed<T> {
     /// What is claimed to have this value or makespan.
     pub plan: T,
 }
-
-#[cfg(test)]
-mod tests;

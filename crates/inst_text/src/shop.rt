@@ -57,6 +57,3 @@ impl Model for Starts {
 
     ghost invariant = { λ s. AreStarts (map (λ row. row.items) s.rows.items) };
 }
-
-#[cfg(test)]
-mod tests;

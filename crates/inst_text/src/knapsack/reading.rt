@@ -8,7 +8,6 @@ ghost use Rattle.inst_text.specs.Knapsack.{knapsack_of};
 
 use crate::knapsack::{Item, Items};
 use crate::limits::{CAPACITY_LIMIT, ITEM_LIMIT, TOTAL_LIMIT, WEIGHT_LIMIT};
-use crate::size::open_text;
 use pq_io::{BadInput, Cause, ReadRefusal, TextReader, WordReader, on_line};
 use std::alloc::Global;
 
@@ -110,7 +109,7 @@ pub fn read_knapsack(alloc: Global, bytes: &[u8]) -> Result<Items, ReadRefusal>
 fn whole_knapsack(alloc: Global, bytes: &[u8]) -> Result<Items, ReadRefusal>
     ensures { Gives (λ i. i) result (knapsack_of bytes.now) }
 {
-    let mut text = open_text(bytes)?;
+    let mut text = TextReader::open(bytes)?;
     let items = next_knapsack(alloc, &mut text)?;
     text.finish()?;
     Ok(items)

@@ -11,7 +11,6 @@ ghost use Rattle.inst_text.specs.Plans.{IsKnapsackPlanText, knapsack_plan_of};
 use crate::knapsack::{Choice, Items, next_knapsack};
 use crate::plan::Claimed;
 use crate::plan::stated::next_stated;
-use crate::size::open_text;
 use pq_io::{BadInput, Cause, ReadRefusal, TextReader, WordReader, digits, on_line};
 use std::alloc::Global;
 
@@ -123,7 +122,7 @@ pub fn read_plan_knapsack(
 fn whole_plan(alloc: Global, bytes: &[u8]) -> Result<(Items, Claimed<Choice>), ReadRefusal>
     ensures { Gives (λ r. r) result (knapsack_plan_of bytes.now) }
 {
-    let mut text = open_text(bytes)?;
+    let mut text = TextReader::open(bytes)?;
     let items = next_knapsack(alloc, &mut text)?;
     let count = items.items.len() as u64;
     let choice = next_choice(alloc, &mut text, count)?;

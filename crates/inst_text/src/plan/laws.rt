@@ -1,6 +1,7 @@
 //! What the texts of plans are.
 
 ghost use Rattle.std.specs.Prelude.{◌≡◌, ◌≤◌, ◌↔◌, ◌++◌, List, [], ◌∷◌, ℕ, length, Ok};
+ghost use Rattle.pq_io.specs.Inputs.{longest_input};
 ghost use Rattle.inst_text.specs.declared.plan.Claimed.{Claimed};
 ghost use Rattle.inst_text.specs.Limits.{stated_limit};
 ghost use Rattle.inst_text.specs.Knapsack.{Instance, IsInstance, AreNumbers, IsKnapsackText};
@@ -40,7 +41,7 @@ pub fn written_starts_are_read()
 pub fn choices_are_read_behind()
     ensures { (bytes : List ℕ) (i : Instance) (c : Claimed (List ℕ)) → IsKnapsackText (bytes ++ 10 ∷ []) i
         → c.stated ≤ stated_limit → AreNumbers 0 (length i.items) c.plan
-        → length (bytes ++ 10 ∷ choice_text c.stated c.plan) ≤ 67108864
+        → length (bytes ++ 10 ∷ choice_text c.stated c.plan) ≤ longest_input
         → knapsack_plan_of (bytes ++ 10 ∷ choice_text c.stated c.plan) ≡ Ok (i, c) }
 {}
 
@@ -49,6 +50,6 @@ pub fn choices_are_read_behind()
 pub fn starts_are_read_behind()
     ensures { (bytes : List ℕ) (s : JobShop) (c : Claimed (List (List ℕ))) → IsShopText (bytes ++ 10 ∷ []) s
         → c.stated ≤ stated_limit → AreStartsOf s c.plan
-        → length (bytes ++ 10 ∷ starts_text c.stated c.plan) ≤ 67108864
+        → length (bytes ++ 10 ∷ starts_text c.stated c.plan) ≤ longest_input
         → shop_plan_of (bytes ++ 10 ∷ starts_text c.stated c.plan) ≡ Ok (s, c) }
 {}

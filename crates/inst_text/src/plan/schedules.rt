@@ -12,7 +12,6 @@ use crate::limits::TOTAL_LIMIT;
 use crate::plan::Claimed;
 use crate::plan::stated::next_stated;
 use crate::shop::{Jobs, Starts, next_shop};
-use crate::size::open_text;
 use pq_io::{BadInput, ReadRefusal, TextReader, WordReader, on_line};
 use std::alloc::Global;
 
@@ -120,7 +119,7 @@ pub fn read_plan_shop(alloc: Global, bytes: &[u8]) -> Result<(Jobs, Claimed<Star
 fn whole_plan(alloc: Global, bytes: &[u8]) -> Result<(Jobs, Claimed<Starts>), ReadRefusal>
     ensures { Gives (λ r. r) result (shop_plan_of bytes.now) }
 {
-    let mut text = open_text(bytes)?;
+    let mut text = TextReader::open(bytes)?;
     let shop = next_shop(alloc, &mut text)?;
     let jobs = shop.rows.len() as u64;
     let starts = next_starts(alloc, &mut text, jobs, u64::from(shop.machines))?;

@@ -8,7 +8,6 @@ ghost use Rattle.inst_text.specs.Shop.{line_operations_at, row_of, rows_at, shop
 
 use crate::limits::{JOB_LIMIT, MACHINE_LIMIT, OPERATION_LIMIT, TOTAL_LIMIT};
 use crate::shop::{Jobs, Operation};
-use crate::size::open_text;
 use pq_io::{BadInput, Cause, ReadRefusal, TextReader, WordReader, on_line};
 use std::alloc::Global;
 
@@ -170,7 +169,7 @@ pub fn read_shop(alloc: Global, bytes: &[u8]) -> Result<Jobs, ReadRefusal>
 fn whole_shop(alloc: Global, bytes: &[u8]) -> Result<Jobs, ReadRefusal>
     ensures { Gives (λ s. s) result (shop_of bytes.now) }
 {
-    let mut text = open_text(bytes)?;
+    let mut text = TextReader::open(bytes)?;
     let shop = next_shop(alloc, &mut text)?;
     text.finish()?;
     Ok(shop)
