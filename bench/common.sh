@@ -9,11 +9,8 @@ yardstick() {
     [ "$build/$1" -nt "$source" ] || rustc -O --edition 2024 -o "$build/$1" "$source" || exit 70
 }
 
-# Builds the program itself.
-program() {
-    "$top/pq" </dev/null >/dev/null 2>&1
-    [ $? -ne 70 ] || exit 70
-}
+# The program itself: the one that the variable PQ names, or that of these sources.
+pq=${PQ-$("$top/dist/program")} || exit 70
 
 # The status that each timed command has to end with.
 wanted=0
