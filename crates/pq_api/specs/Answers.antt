@@ -2,7 +2,7 @@
 use Rattle.std.specs.Prelude.{◌≡◌, ℕ, ◌<◌, ◌≤◌, List, length, slice_index_or}
 use Rattle.pq_words.specs.declared.entries.Entry.{Entry}
 use Rattle.pq_model.specs.declared.marks.Act.{Act}
-use Rattle.pq_model.specs.declared.marks.Act.TheVariants.{Insert, Remove}
+use Rattle.pq_model.specs.declared.marks.Act.TheVariants.{Insert, Remove, RemoveBelow}
 use Rattle.pq_model.specs.declared.marks.Reply.{Reply}
 use Rattle.pq_model.specs.declared.marks.Reply.TheVariants as replies
 use Rattle.pq_model.specs.declared.passes.Known.{Known}
@@ -11,6 +11,8 @@ use Rattle.pq_api.specs.declared.answers.Inserted.{Inserted}
 use Rattle.pq_api.specs.declared.answers.Inserted.TheVariants.{Done, Full}
 use Rattle.pq_api.specs.declared.answers.Removed.{Removed}
 use Rattle.pq_api.specs.declared.answers.Removed.TheVariants.{Got, Empty}
+use Rattle.pq_api.specs.declared.answers.Below.{Below}
+use Rattle.pq_api.specs.declared.answers.Below.TheVariants as below
 use Rattle.pq_api.specs.declared.answers.CloseWhy.{CloseWhy}
 use Rattle.pq_api.specs.declared.answers.CloseWhy.TheVariants.{PassesOut, NoMemory}
 
@@ -26,6 +28,17 @@ abbrev pub IsRemoved : Known → Removed → Known → Type 0
 IsRemoved before (Got e r) now = MakesCall before r.place Remove (replies.Got e) now
 IsRemoved before (Empty r) now = MakesCall before r.place Remove replies.Empty now
 
+abbrev pub IsRemovedBelow : Known → ℕ → Below → Known → Type 0
+IsRemovedBelow before limit (below.Got e r) now = MakesCall before r.place (RemoveBelow limit) (replies.Got e) now
+IsRemovedBelow before limit (below.Empty r) now = MakesCall before r.place (RemoveBelow limit) replies.Empty now
+IsRemovedBelow before limit (below.Above r) now = MakesCall before r.place (RemoveBelow limit) replies.Above now
+
+-- an entry that was got has its key below the limit
+abbrev pub IsBelow : ℕ → Below → Type 0
+IsBelow limit (below.Got e r) = e.key < limit
+IsBelow limit (below.Empty r) = Unit {0}
+IsBelow limit (below.Above r) = Unit {0}
+
 -- the reply of an answer
 abbrev pub insert_reply : Inserted → Reply
 insert_reply (Done r) = replies.Done
@@ -34,6 +47,11 @@ insert_reply (Full r) = replies.Full
 abbrev pub remove_reply : Removed → Reply
 remove_reply (Got e r) = replies.Got e
 remove_reply (Empty r) = replies.Empty
+
+abbrev pub below_reply : Below → Reply
+below_reply (below.Got e r) = replies.Got e
+below_reply (below.Empty r) = replies.Empty
+below_reply (below.Above r) = replies.Above
 
 -- why a close was refused, where this many passes are joined
 abbrev pub IsRefusal : ℕ → ℕ → CloseWhy → Type 0

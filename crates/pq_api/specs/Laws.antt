@@ -1,17 +1,24 @@
 -- What follows from knowing a legal history.
-use Rattle.std.specs.Prelude.{◌≡◌, ℕ, ◌<◌, ◌≤◌, ◌↔◌, List, [], length, take, slice_get, Contains, Some}
+use Rattle.std.specs.Prelude.{◌≡◌, ℕ, ◌<◌, ◌≤◌, ◌↔◌, List, [], length, take, slice_get, Contains, Some, IsSomeAnd}
 use Rattle.pq_words.specs.declared.entries.Entry.{Entry}
 use Rattle.pq_model.specs.declared.marks.Act.{Act}
-use Rattle.pq_model.specs.declared.marks.Act.TheVariants.{Insert, Remove}
+use Rattle.pq_model.specs.declared.marks.Act.TheVariants.{Insert, Remove, RemoveBelow}
 use Rattle.pq_model.specs.declared.marks.Reply.{Reply}
-use Rattle.pq_model.specs.declared.marks.Reply.TheVariants.{Full, Empty}
+use Rattle.pq_model.specs.declared.marks.Reply.TheVariants.{Got, Full, Empty, Above}
 use Rattle.pq_model.specs.declared.marks.Mark.{Mark}
 use Rattle.pq_model.specs.declared.passes.Call.{Call}
 use Rattle.pq_model.specs.declared.passes.Lane.{Lane}
 use Rattle.pq_model.specs.declared.passes.Known.{Known}
+use Rattle.pq_model.specs.Multiset.{least}
 use Rattle.pq_model.specs.History.{mark, IsStep, IsLegal, after, left}
 use Rattle.pq_model.specs.Passes.{lanes, HoldsCalls, Witnesses, Knows, IsActual, with_call}
 use Rattle.pq_api.specs.Plain.{marks_of}
+
+-- how a removal below a limit is answered where these entries are held
+pub record IsAnsweredBelow (limit : ℕ) (m : List Entry) (reply : Reply) : Type 0 where
+  pub empty : (reply ≡ Empty) ↔ (m ≡ [])
+  pub above : (reply ≡ Above) ↔ IsSomeAnd (least m) (λ (e : Entry). limit ≤ e.key)
+  pub got : (e : Entry) → (reply ≡ Got e) ↔ ((least m ≡ Some e) × (e.key < limit))
 
 abbrev pub SizesAreBounded : Type 0
 SizesAreBounded = (seats capacity : ℕ) (history : List Mark) → IsLegal seats capacity history → length (left history) ≤ capacity
@@ -40,6 +47,11 @@ FullWithOneSeat = (capacity place seat : ℕ) (history : List Mark) (e : Entry) 
 abbrev pub EmptyWhereNothingIsLeft : Type 0
 EmptyWhereNothingIsLeft = (seats capacity place seat : ℕ) (history : List Mark) (reply : Reply) → IsLegal seats capacity history → slice_get history place ≡ Some (mark seat Remove reply)
     → (reply ≡ Empty) ↔ (left (take place history) ≡ [])
+
+-- a removal below a limit is answered by what is held: nothing, an entry below the limit that is the least, or none below it
+abbrev pub BelowWhereTheLeastIs : Type 0
+BelowWhereTheLeastIs = (seats capacity place seat limit : ℕ) (history : List Mark) (reply : Reply) → IsLegal seats capacity history
+    → slice_get history place ≡ Some (mark seat (RemoveBelow limit) reply) → IsAnsweredBelow limit (left (take place history)) reply
 
 -- with one seat, the pass that has it has made all calls of each legal history that holds its calls
 abbrev pub OneSeatHasMadeAll : Type 0

@@ -1,6 +1,5 @@
 -- The plain queue: its one pass has made all calls, so that they are the history.
 use Rattle.std.specs.Prelude.{◌≡◌, ℕ, ◌^◌, ◌<◌, List, [], ◌∷◌, length, map}
-use Rattle.std.specs.declared.cmp.Reverse.{Reverse}
 use Rattle.atomic_table.specs.Table.{State, Me}
 use Rattle.pq_words.specs.declared.entries.Entry.{Entry}
 use Rattle.pq_model.specs.declared.marks.Act.{Act}
@@ -9,7 +8,6 @@ use Rattle.pq_model.specs.declared.marks.Mark.{Mark}
 use Rattle.pq_model.specs.declared.passes.Call.{Call}
 use Rattle.pq_model.specs.declared.passes.Known.{Known}
 use Rattle.pq_model.specs.History.{mark, left}
-use Rattle.pq_model.specs.Held.{IsHeld}
 use Rattle.pq_model.specs.Passes.{Witnesses, with_call, with_front}
 
 -- what contracts see of a plain pass
@@ -25,13 +23,12 @@ marks_of k = map (λ (c : Call). mark k.number c.act c.reply) k.calls
 abbrev pub held : Plain → List Entry
 held p = left (marks_of p.known)
 
--- what a plain pass keeps: its calls are a legal history of one seat, and the numbers are those of the entries that it leaves
-pub record IsKept (capacity : ℕ) (k : Known) (numbers : List (Reverse ℕ)) : Type 0 where
+-- what a plain pass keeps of its calls: they are a legal history of one seat
+pub record IsKept (capacity : ℕ) (k : Known) : Type 0 where
   pub first : k.number ≡ 1
   pub alone : k.joined ≡ []
   pub witnessed : Witnesses 1 capacity k (marks_of k)
   pub few : length k.calls < 2 ^ 25
-  pub rest : IsHeld numbers (left (marks_of k))
 
 -- the rule of the pass's table: there is one view, and the one word counts its calls
 pub record IsCounted {S : Type 0} (s : State S Known) : Type 0 where

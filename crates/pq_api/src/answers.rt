@@ -21,6 +21,17 @@ pub enum Removed {
     Empty(Receipt),
 }
 
+/// What a removal below a limit was answered. The receipt tells the place of the call in the queue's history.
+#[derive(Clone, Copy, Debug, PartialEq, Eq)]
+pub enum Below {
+    /// This entry was the least, and was taken. Its key is below the limit.
+    Got(Entry, Receipt),
+    /// There was no entry to take.
+    Empty(Receipt),
+    /// There were entries, and the least key was the limit or above it.
+    Above(Receipt),
+}
+
 /// What a queue was when it was closed.
 #[derive(Debug, Drop)]
 pub struct Closed {

@@ -1,4 +1,4 @@
-ghost use Rattle.pq_api.specs.Laws.{SizesAreBounded, CallsAreSteps, PlacesAreCalls, FullWithOneSeat, EmptyWhereNothingIsLeft, OneSeatHasMadeAll, OneSeatSteps};
+ghost use Rattle.pq_api.specs.Laws.{SizesAreBounded, CallsAreSteps, PlacesAreCalls, FullWithOneSeat, EmptyWhereNothingIsLeft, BelowWhereTheLeastIs, OneSeatHasMadeAll, OneSeatSteps};
 
 /// A law of histories, with nothing to run: a legal history never leaves more entries than the capacity.
 pub fn sizes_are_bounded()
@@ -26,6 +26,13 @@ pub fn full_with_one_seat()
 /// A law of histories, with nothing to run: a removal is answered `Empty` exactly where no entry is held.
 pub fn empty_where_nothing_is_left()
     ensures { EmptyWhereNothingIsLeft }
+{}
+
+/// A law of histories, with nothing to run: a removal below a limit is answered `Empty` exactly where no entry
+/// is held, `Above` exactly where some are and the least key is the limit or above it, and `Got` exactly with
+/// the least entry, where its key is below the limit.
+pub fn below_where_the_least_is()
+    ensures { BelowWhereTheLeastIs }
 {}
 
 /// A law of passes, with nothing to run: with one seat, each history that the pass knows is its own calls,

@@ -9,11 +9,11 @@ mod queue;
 #[cfg(test)]
 mod tests;
 
-pub use answers::{CloseRefusal, CloseWhy, Closed, Inserted, Removed};
+pub use answers::{Below, CloseRefusal, CloseWhy, Closed, Inserted, Removed};
 pub use gates::{Gate, Open, Point};
 pub use laws::{
-    calls_are_steps, empty_where_nothing_is_left, full_with_one_seat, one_seat_has_made_all,
-    one_seat_steps, places_are_calls, sizes_are_bounded,
+    below_where_the_least_is, calls_are_steps, empty_where_nothing_is_left, full_with_one_seat,
+    one_seat_has_made_all, one_seat_steps, places_are_calls, sizes_are_bounded,
 };
 pub use plain::{PlainPass, PlainQueue};
-pub use queue::SharedQueue;
+pub use queue::{BoundedQueue, SharedQueue};

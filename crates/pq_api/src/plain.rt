@@ -1,6 +1,5 @@
-//! The plain queue: a heap of entries with one caller, the yardstick of the shared queues.
+//! The plain queue: a heap of entries with one caller, the baseline of the shared queues.
 
-mod heap;
 mod pass;
 mod queue;
 mod steps;

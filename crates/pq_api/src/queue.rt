@@ -2,10 +2,10 @@ ghost use Rattle.std.specs.Prelude.{◌≡◌, ℕ, ◌+◌, ◌-◌, ◌^◌, �
 ghost use Rattle.pq_model.specs.declared.marks.Mark.{Mark};
 ghost use Rattle.pq_model.specs.declared.passes.Known.{Known};
 ghost use Rattle.pq_model.specs.Passes.{lanes, Witnesses, Knows, IsApart, fresh, with_front, joined_with};
-ghost use Rattle.pq_api.specs.Answers.{EachAt, IsInserted, IsRemoved, IsRefusal};
+ghost use Rattle.pq_api.specs.Answers.{EachAt, IsInserted, IsRemoved, IsRemovedBelow, IsBelow, IsRefusal};
 ghost use Rattle.pq_api.specs.Closing.{IsClosed};
 
-use crate::{CloseRefusal, Closed, Gate, Inserted, Removed};
+use crate::{Below, CloseRefusal, Closed, Gate, Inserted, Removed};
 use pq_io::NoMemory;
 use pq_words::Entry;
 use std::alloc::Global;
@@ -134,4 +134,19 @@ pub trait SharedQueue: Sync + Drop {
 
     /// Each queue keeps the limits of its kind.
     ghost sized: { (q : Self) → (1 ≤ seats_of q) × (seats_of q ≤ SEATS) × (seats_of q ≤ capacity_of q) × (capacity_of q ≤ CAPACITY) };
+}
+
+/// A shared queue that also takes the least entry only where its key is below a limit.
+pub trait BoundedQueue: SharedQueue {
+    /// Takes the least entry, by key and then by id, where its key is below the limit, which is 0 to
+    /// 67,108,864. `Empty` comes exactly where none was held at the call's place, and `Above` exactly where
+    /// some were held and the least key was the limit or above it.
+    fn remove_below<R: Wait + Sync>(&self, rt: &R, pass: &mut Self::Pass, limit: u32) -> Below
+        requires own { Self.belongs self.now pass.old }
+        requires few { length (Self.known pass.old).calls < 2 ^ 25 - 1 }
+        requires limit { limit ≤ 2 ^ 26 }
+        ensures own { Self.belongs self.now pass.new }
+        ensures call { IsRemovedBelow (Self.known pass.old) limit result (Self.known pass.new) }
+        ensures key { IsBelow limit result }
+        ensures knows { Knows (Self.seats_of self.now) (Self.capacity_of self.now) (Self.known pass.new) };
 }

@@ -1,24 +1,22 @@
-ghost use Rattle.std.specs.Prelude.{◌≡◌, ℕ, ◌+◌, ◌-◌, ◌^◌, ◌<◌, ◌≤◌, ◌↔◌, List, [], length, IfOk, IfErr};
-ghost use Rattle.std.specs.BinaryHeap.{heap_items, heap_capacity};
+ghost use Rattle.std.specs.Prelude.{◌≡◌, ℕ, ◌+◌, ◌-◌, ◌^◌, ◌<◌, ◌≤◌, ◌↔◌, List, [], length, IfOk, IfErr, IsSomeAnd};
 ghost use Rattle.pq_words.specs.declared.entries.Entry.{Entry};
-ghost use Rattle.pq_model.specs.declared.marks.Act.TheVariants.{Insert, Remove};
-ghost use Rattle.pq_model.specs.declared.marks.Reply.TheVariants.{Full, Empty};
+ghost use Rattle.pq_model.specs.declared.marks.Act.TheVariants.{Insert, Remove, RemoveBelow};
+ghost use Rattle.pq_model.specs.declared.marks.Reply.TheVariants.{Full, Empty, Above};
 ghost use Rattle.pq_model.specs.declared.marks.Mark.{Mark};
-ghost use Rattle.pq_model.specs.History.{IsStep, after};
+ghost use Rattle.pq_model.specs.Multiset.{least};
+ghost use Rattle.pq_model.specs.History.{IsStep, after, left};
 ghost use Rattle.pq_model.specs.Passes.{Knows, Witnesses, fresh, with_front};
-ghost use Rattle.pq_api.specs.Answers.{IsInserted, IsRemoved, insert_reply, remove_reply};
+ghost use Rattle.pq_api.specs.Answers.{IsInserted, IsRemoved, IsRemovedBelow, IsBelow, insert_reply, remove_reply, below_reply};
 ghost use Rattle.pq_api.specs.Closing.{IsClosed};
-ghost use Rattle.pq_api.specs.Plain.{Plain, IsKept, held};
+ghost use Rattle.pq_api.specs.Plain.{Plain, IsKept, marks_of, held};
 
-use super::heap::{Numbers, drained, put, take_least};
 use super::steps::{PlainSeat, PlainTable, draw, load};
-use crate::{Closed, Inserted, Removed};
+use crate::{Below, Closed, Inserted, Removed};
 use atomic_table::Table;
 use pq_io::NoMemory;
-use pq_model::{Act, Receipt, Reply};
+use pq_model::{Act, EntryHeap, Reply};
 use pq_words::Entry;
 use std::alloc::Global;
-use std::collections::BinaryHeap;
 use std::marker::Model;
 
 /// The one pass of a plain queue, which holds the entries. Its number is 1.
@@ -27,7 +25,7 @@ use std::marker::Model;
 /// entries that it holds are those that these calls leave.
 #[derive(Drop)]
 pub struct PlainPass {
-    numbers: Numbers,
+    held: EntryHeap,
     capacity: u32,
     table: PlainTable,
     seat: PlainSeat,
@@ -38,17 +36,17 @@ impl Model for PlainPass {
 
     ghost view = { λ p. record { capacity = p.capacity; known = p.seat.me.0 } };
 
-    ghost invariant = { λ p. IsKept p.capacity p.seat.me.0 (heap_items p.numbers) × (p.seat.table_id ≡ p.table.shared.table_id) × (p.table.shared.table_id.words ≡ 1) × (p.capacity ≤ heap_capacity p.numbers) };
+    ghost invariant = { λ p. IsKept p.capacity p.seat.me.0 × (p.held.entries ≡ left (marks_of p.seat.me.0)) × (p.seat.table_id ≡ p.table.shared.table_id) × (p.table.shared.table_id.words ≡ 1) × (p.capacity ≤ p.held.room) };
 }
 
 impl PlainPass {
     pub(crate) fn new(alloc: Global, capacity: u32) -> Result<PlainPass, NoMemory>
         ensures { IfOk result (λ p. (p.capacity ≡ capacity) × (p.known ≡ fresh 1)) }
     {
-        let numbers = BinaryHeap::with_capacity(alloc, capacity as usize)?;
+        let held = EntryHeap::with_room(alloc, capacity as usize)?;
         let (table, seat) = Table::of_words(alloc, &[0], &())?;
         Ok(PlainPass {
-            numbers,
+            held,
             capacity,
             table,
             seat,
@@ -68,13 +66,27 @@ impl PlainPass {
         ensures full { (insert_reply result ≡ Full) ↔ (length (held self.old) ≡ self.old.capacity) }
         ensures holds { held self.new ≡ after (held self.old) (Insert e) (insert_reply result) }
     {
-        if self.numbers.len() < self.capacity as usize {
-            put(&mut self.numbers, e);
-            let place = draw(&self.table, &mut self.seat, Act::Insert(e), Reply::Done);
-            Inserted::Done(Receipt { place })
+        if self.held.len() < self.capacity as usize {
+            let Ok(()) = self.held.add(e) else {
+                unreachable!()
+            };
+            let receipt = draw(
+                &self.table,
+                &mut self.seat,
+                self.capacity,
+                Act::Insert(e),
+                Reply::Done,
+            );
+            Inserted::Done(receipt)
         } else {
-            let place = draw(&self.table, &mut self.seat, Act::Insert(e), Reply::Full);
-            Inserted::Full(Receipt { place })
+            let receipt = draw(
+                &self.table,
+                &mut self.seat,
+                self.capacity,
+                Act::Insert(e),
+                Reply::Full,
+            );
+            Inserted::Full(receipt)
         }
     }
 
@@ -89,14 +101,78 @@ impl PlainPass {
         ensures empty { (remove_reply result ≡ Empty) ↔ (held self.old ≡ []) }
         ensures holds { held self.new ≡ after (held self.old) Remove (remove_reply result) }
     {
-        match take_least(&mut self.numbers) {
+        match self.held.take() {
             Some(e) => {
-                let place = draw(&self.table, &mut self.seat, Act::Remove, Reply::Got(e));
-                Removed::Got(e, Receipt { place })
+                let receipt = draw(
+                    &self.table,
+                    &mut self.seat,
+                    self.capacity,
+                    Act::Remove,
+                    Reply::Got(e),
+                );
+                Removed::Got(e, receipt)
             }
             None => {
-                let place = draw(&self.table, &mut self.seat, Act::Remove, Reply::Empty);
-                Removed::Empty(Receipt { place })
+                let receipt = draw(
+                    &self.table,
+                    &mut self.seat,
+                    self.capacity,
+                    Act::Remove,
+                    Reply::Empty,
+                );
+                Removed::Empty(receipt)
+            }
+        }
+    }
+
+    /// Takes the least entry, by key and then by id, where its key is below the limit, as `remove_below` of a
+    /// shared queue does, and returns always. `Empty` comes exactly where none is held, and `Above` exactly
+    /// where some are and the least key is the limit or above it. Takes O(log n) where n entries are held, and
+    /// no memory; an answer `Above` or `Empty` takes O(1).
+    pub fn take_below(&mut self, limit: u32) -> Below
+        requires few { length self.old.known.calls < 2 ^ 25 - 1 }
+        requires limit { limit ≤ 2 ^ 26 }
+        ensures capacity { self.new.capacity ≡ self.old.capacity }
+        ensures call { IsRemovedBelow self.old.known limit result self.new.known }
+        ensures key { IsBelow limit result }
+        ensures knows { Knows 1 self.old.capacity self.new.known }
+        ensures step { IsStep 1 self.old.capacity (held self.old) (RemoveBelow limit) (below_reply result) }
+        ensures empty { (below_reply result ≡ Empty) ↔ (held self.old ≡ []) }
+        ensures above { (below_reply result ≡ Above) ↔ IsSomeAnd (least (held self.old)) (λ (e : Entry). limit ≤ e.key) }
+        ensures holds { held self.new ≡ after (held self.old) (RemoveBelow limit) (below_reply result) }
+    {
+        let act = Act::RemoveBelow(limit);
+        match self.held.least() {
+            Some(e) if e.key < limit => {
+                self.held.take();
+                let receipt = draw(
+                    &self.table,
+                    &mut self.seat,
+                    self.capacity,
+                    act,
+                    Reply::Got(e),
+                );
+                Below::Got(e, receipt)
+            }
+            Some(_) => {
+                let receipt = draw(
+                    &self.table,
+                    &mut self.seat,
+                    self.capacity,
+                    act,
+                    Reply::Above,
+                );
+                Below::Above(receipt)
+            }
+            None => {
+                let receipt = draw(
+                    &self.table,
+                    &mut self.seat,
+                    self.capacity,
+                    act,
+                    Reply::Empty,
+                );
+                Below::Empty(receipt)
             }
         }
     }
@@ -114,17 +190,17 @@ impl PlainPass {
         ensures closed { IfOk result (IsClosed 1 self.capacity self.known) }
         ensures same { IfErr result (λ p. p ≡ self) }
     {
-        let Ok(list) = Vec::with_capacity(alloc, self.numbers.len()) else {
+        let Ok(mut left) = Vec::with_capacity(alloc, self.held.len()) else {
             return Err(self);
         };
         let length = load(&self.table, &mut self.seat);
         let PlainPass {
-            numbers,
+            held,
             capacity: _,
             table: _,
             seat: _,
         } = self;
-        let left = drained(numbers, list);
+        held.put_into(&mut left);
         Ok(Closed { left, length })
     }
 

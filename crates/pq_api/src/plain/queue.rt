@@ -2,7 +2,9 @@ ghost use Rattle.std.specs.Prelude.{◌≡◌, ◌≤◌};
 ghost use Rattle.std.proofs.Common.{rules};
 
 use super::pass::PlainPass;
-use crate::{CloseRefusal, CloseWhy, Closed, Inserted, Open, Removed, SharedQueue};
+use crate::{
+    Below, BoundedQueue, CloseRefusal, CloseWhy, Closed, Inserted, Open, Removed, SharedQueue,
+};
 use pq_io::NoMemory;
 use pq_words::Entry;
 use std::alloc::Global;
@@ -91,5 +93,11 @@ impl SharedQueue for PlainQueue {
                 why: CloseWhy::NoMemory,
             }),
         }
+    }
+}
+
+impl BoundedQueue for PlainQueue {
+    fn remove_below<R: Wait + Sync>(&self, _rt: &R, pass: &mut Self::Pass, limit: u32) -> Below {
+        pass.take_below(limit)
     }
 }

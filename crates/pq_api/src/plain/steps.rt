@@ -4,11 +4,13 @@ ghost use Rattle.pq_model.specs.declared.marks.Act.TheVariants.{Remove};
 ghost use Rattle.pq_model.specs.declared.marks.Reply.{Reply};
 ghost use Rattle.pq_model.specs.declared.marks.Reply.TheVariants.{Empty};
 ghost use Rattle.pq_model.specs.declared.passes.Known.{Known};
-ghost use Rattle.pq_model.specs.Passes.{fresh};
-ghost use Rattle.pq_api.specs.Plain.{IsCounted, Draws, Looks};
+ghost use Rattle.pq_model.specs.History.{IsStep, after, left};
+ghost use Rattle.pq_model.specs.Passes.{Knows, fresh};
+ghost use Rattle.pq_api.specs.Answers.{MakesCall};
+ghost use Rattle.pq_api.specs.Plain.{IsCounted, IsKept, Draws, Looks, marks_of};
 
 use atomic_table::{Play, Seat, Table, TableRule};
-use pq_model::{Act, Known, Reply};
+use pq_model::{Act, Known, Receipt, Reply};
 use std::alloc::Global;
 use std::marker::{Brand, PhantomData};
 
@@ -63,13 +65,26 @@ fn draw_made<J: Making>(table: &PlainTable, seat: &mut PlainSeat, act: Act, repl
     table.shared.fetch_add::<CallStep<J>>(seat, 0, 1)
 }
 
-pub fn draw(table: &PlainTable, seat: &mut PlainSeat, act: Act, reply: Reply) -> u32
+// The same for a pass that keeps its calls, of which this is a step.
+pub fn draw(
+    table: &PlainTable,
+    seat: &mut PlainSeat,
+    capacity: u32,
+    act: Act,
+    reply: Reply,
+) -> Receipt
     requires own { (seat.old.table_id ≡ table.now.shared.table_id) × (table.now.shared.table_id.words ≡ 1) }
     requires few { length seat.old.me.0.calls < 2 ^ 25 - 1 }
+    requires kept { IsKept capacity seat.old.me.0 }
+    requires step { IsStep 1 capacity (left (marks_of seat.old.me.0)) act reply }
     ensures own { seat.new.table_id ≡ seat.old.table_id }
-    ensures call { Draws act reply seat.old.me result seat.new.me }
+    ensures call { MakesCall seat.old.me.0 result.place act reply seat.new.me.0 }
+    ensures kept { IsKept capacity seat.new.me.0 }
+    ensures knows { Knows 1 capacity seat.new.me.0 }
+    ensures left { left (marks_of seat.new.me.0) ≡ after (left (marks_of seat.old.me.0)) act reply }
 {
-    draw_made::<Brand>(table, seat, act, reply) as u32
+    let place = draw_made::<Brand>(table, seat, act, reply) as u32;
+    Receipt { place }
 }
 
 // The length of the history, to which the view's front rises.
