@@ -1,0 +1,1 @@
+awk 'BEGIN { print "seats 16 capacity 1048576"; for (p = 0; p < 1048576; p++) if (p % 2) print p, 1 + p % 16, "- got", 67108863, 4194303; else print p, 1 + p % 16, "+", 67108863, 4194303, "done"; print "left 0" }'
