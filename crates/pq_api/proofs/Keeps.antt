@@ -2,6 +2,7 @@
 use Rattle.std.proofs.Common.{◌≡◌, ◌≢◌, ℕ, ◌-◌, ◌^◌, ◌<◌, List, [], ◌∷◌, ◌++◌, length, refl, sym, ap, ◌∙◌, subst, arith, length-append}
 use Rattle.std.specs.Prelude.{◌↔◌, All, Contains}
 use Rattle.std.proofs.lemmas.List.Elements.{All-nil, All-weaker}
+use Rattle.atomic_table.specs.Seated.{TableId}
 use Rattle.pq_words.specs.declared.entries.Entry.{Entry}
 use Rattle.pq_model.specs.declared.marks.Act.{Act}
 use Rattle.pq_model.specs.declared.marks.Act.TheVariants.{Insert}
@@ -47,9 +48,9 @@ pub full_kept : {c : ℕ} {k : Known} (e : Entry) (reply : Reply) → IsKept c k
 full_kept {c} {k} e reply h step = full_exactly c (left (marks_of k)) e reply (size_bounded 1 c (marks_of k) h.witnessed.legal) step
 
 -- what the pass shows when its queue is closed
-pub kept_closed : {c : ℕ} {k : Known} {old : Plain} (es : List Entry) (n : ℕ) → IsKept c k → record { capacity = c; known = k } ≡ old → es ≡ left (marks_of k) → n ≡ length k.calls
+pub kept_closed : {c : ℕ} {t : TableId} {k : Known} {old : Plain} (es : List Entry) (n : ℕ) → IsKept c k → record { capacity = c; table = t; known = k } ≡ old → es ≡ left (marks_of k) → n ≡ length k.calls
     → IsClosed 1 old.capacity old.known (record { left = es; length = n })
-kept_closed {c} {k} {old} es n h same entries count = let one : k.number ≡ 1 = h.first in subst (λ (v : Plain). IsClosed 1 v.capacity v.known (record { left = es; length = n })) same (record {
+kept_closed {c} {t} {k} {old} es n h same entries count = let one : k.number ≡ 1 = h.first in subst (λ (v : Plain). IsClosed 1 v.capacity v.known (record { left = es; length = n })) same (record {
   history = marks_of k;
   actual = record {
     holds = h.witnessed.holds;

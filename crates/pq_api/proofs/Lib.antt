@@ -1,3 +1,4 @@
+-- What is shown of callers that have a queue's one seat, and of the plain pass.
 pub mod Taking
 pub mod Replayed
 pub mod Places

@@ -1,3 +1,5 @@
+-- What the interface of a queue says.
+pub mod Limits
 pub mod Answers
 pub mod Closing
 pub mod Plain

@@ -1,6 +1,7 @@
 -- The plain queue: its one pass has made all calls, so that they are the history.
-use Rattle.std.specs.Prelude.{◌≡◌, ℕ, ◌^◌, ◌<◌, List, [], ◌∷◌, length, map}
+use Rattle.std.specs.Prelude.{◌≡◌, ℕ, ◌<◌, List, [], ◌∷◌, length, map}
 use Rattle.atomic_table.specs.Table.{State, Me}
+use Rattle.atomic_table.specs.Seated.{TableId}
 use Rattle.pq_words.specs.declared.entries.Entry.{Entry}
 use Rattle.pq_model.specs.declared.marks.Act.{Act}
 use Rattle.pq_model.specs.declared.marks.Reply.{Reply}
@@ -9,10 +10,13 @@ use Rattle.pq_model.specs.declared.passes.Call.{Call}
 use Rattle.pq_model.specs.declared.passes.Known.{Known}
 use Rattle.pq_model.specs.History.{mark, left}
 use Rattle.pq_model.specs.Passes.{Witnesses, with_call, with_front}
+use Rattle.pq_api.specs.Limits.{call_limit}
 
--- what contracts see of a plain pass
+-- what contracts see of a plain pass: how many entries its queue takes, the table that it shares with its queue
+-- alone, and what it means
 pub record Plain : Type 0 where
   pub capacity : ℕ
+  pub table : TableId
   pub known : Known
 
 -- the marks of the pass's own calls, in order
@@ -28,7 +32,7 @@ pub record IsKept (capacity : ℕ) (k : Known) : Type 0 where
   pub first : k.number ≡ 1
   pub alone : k.joined ≡ []
   pub witnessed : Witnesses 1 capacity k (marks_of k)
-  pub few : length k.calls < 2 ^ 25
+  pub few : length k.calls < call_limit
 
 -- the rule of the pass's table: there is one view, and the one word counts its calls
 pub record IsCounted {S : Type 0} (s : State S Known) : Type 0 where

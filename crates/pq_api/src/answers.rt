@@ -1,3 +1,4 @@
+//! What the calls of a queue are answered.
 use pq_model::Receipt;
 use pq_words::Entry;
 use std::alloc::Global;

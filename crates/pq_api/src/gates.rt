@@ -1,3 +1,4 @@
+//! What tests call at the points of a call.
 use std::sync::Wait;
 
 /// Where in its work a call stands, as it tells a gate. Each point says who stands there, and what it

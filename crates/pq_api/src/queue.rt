@@ -1,7 +1,11 @@
-ghost use Rattle.std.specs.Prelude.{◌≡◌, ℕ, ◌+◌, ◌-◌, ◌^◌, ◌<◌, ◌≤◌, List, length, max, IfOk, IfErr, MatchResult};
+//! The interface that every shared queue has.
+ghost use Rattle.std.specs.Prelude.{◌≡◌, ℕ, ◌+◌, ◌-◌, ◌<◌, ◌≤◌, List, length, max, IfOk, IfErr, MatchResult};
+ghost use Rattle.pq_words.specs.Limits.{key_limit};
+ghost use Rattle.pq_model.specs.Limits.{max_seats, max_capacity};
 ghost use Rattle.pq_model.specs.declared.marks.Mark.{Mark};
 ghost use Rattle.pq_model.specs.declared.passes.Known.{Known};
 ghost use Rattle.pq_model.specs.Passes.{lanes, Witnesses, Knows, IsApart, fresh, with_front, joined_with};
+ghost use Rattle.pq_api.specs.Limits.{call_limit};
 ghost use Rattle.pq_api.specs.Answers.{EachAt, IsInserted, IsRemoved, IsRemovedBelow, IsBelow, IsRefusal};
 ghost use Rattle.pq_api.specs.Closing.{IsClosed};
 
@@ -31,10 +35,10 @@ pub trait SharedQueue: Sync + Drop {
     /// What is called at the points of a call.
     type Gate: Gate;
 
-    /// The greatest capacity, from `SEATS` to 1,048,576.
+    /// The greatest capacity, from `SEATS` to `MAX_CAPACITY`.
     const CAPACITY: u32;
 
-    /// The greatest number of seats, from 1 to 16.
+    /// The greatest number of seats, from 1 to `MAX_SEATS`.
     const SEATS: u32;
 
     ghost CAPACITY: { ℕ };
@@ -73,7 +77,7 @@ pub trait SharedQueue: Sync + Drop {
     /// exactly where as many were held as the capacity is, and never on an empty queue.
     fn insert<R: Wait + Sync>(&self, rt: &R, pass: &mut Self::Pass, e: Entry) -> Inserted
         requires own { belongs self.now pass.old }
-        requires few { length (known pass.old).calls < 2 ^ 25 - 1 }
+        requires few { length (known pass.old).calls < call_limit - 1 }
         ensures own { belongs self.now pass.new }
         ensures call { IsInserted (known pass.old) e result (known pass.new) }
         ensures knows { Knows (seats_of self.now) (capacity_of self.now) (known pass.new) };
@@ -82,7 +86,7 @@ pub trait SharedQueue: Sync + Drop {
     /// place.
     fn remove<R: Wait + Sync>(&self, rt: &R, pass: &mut Self::Pass) -> Removed
         requires own { belongs self.now pass.old }
-        requires few { length (known pass.old).calls < 2 ^ 25 - 1 }
+        requires few { length (known pass.old).calls < call_limit - 1 }
         ensures own { belongs self.now pass.new }
         ensures call { IsRemoved (known pass.old) result (known pass.new) }
         ensures knows { Knows (seats_of self.now) (capacity_of self.now) (known pass.new) };
@@ -93,15 +97,19 @@ pub trait SharedQueue: Sync + Drop {
         requires own { belongs self.now pass.old }
         ensures own { belongs self.now pass.new }
         ensures front { ((known pass.old).front ≤ result) × (known pass.new ≡ with_front (known pass.old) result) }
-        ensures knows { (history : List Mark) × Witnesses (seats_of self.now) (capacity_of self.now) (known pass.new) history × (length history ≡ result) };
+        ensures knows { (history : List Mark) ×
+            Witnesses (seats_of self.now) (capacity_of self.now) (known pass.new) history ×
+            (length history ≡ result) };
 
     /// Tells each pass what the other has seen: both fronts become the greater of the two.
     fn meet(&self, a: &mut Self::Pass, b: &mut Self::Pass)
         requires own { belongs self.now a.old × belongs self.now b.old }
         requires apart { IsApart (known a.old) (known b.old) }
         ensures own { belongs self.now a.new × belongs self.now b.new }
-        ensures fronts { let front = max (known a.old).front (known b.old).front in (known a.new ≡ with_front (known a.old) front) × (known b.new ≡ with_front (known b.old) front) }
-        ensures knows { Knows (seats_of self.now) (capacity_of self.now) (known a.new) × Knows (seats_of self.now) (capacity_of self.now) (known b.new) };
+        ensures fronts { let front = max (known a.old).front (known b.old).front in
+            (known a.new ≡ with_front (known a.old) front) × (known b.new ≡ with_front (known b.old) front) }
+        ensures knows { Knows (seats_of self.now) (capacity_of self.now) (known a.new) ×
+            Knows (seats_of self.now) (capacity_of self.now) (known b.new) };
 
     /// Takes the other pass, with its number, its calls, what it has seen and all passes joined into it, into
     /// this one. The other is gone.
@@ -126,25 +134,27 @@ pub trait SharedQueue: Sync + Drop {
     ) -> Result<Closed, CloseRefusal<Self, Self::Pass>>
         requires own { belongs self pass }
         ensures closed { IfOk result (IsClosed (seats_of self) (capacity_of self) (known pass)) }
-        ensures out { MatchResult result (λ _. seats_of self ≤ length (lanes (known pass))) (λ r. IsRefusal (length (lanes (known pass))) (seats_of self) r.why) }
+        ensures out { let joined = length (lanes (known pass)) in
+            MatchResult result (λ _. seats_of self ≤ joined) (λ r. IsRefusal joined (seats_of self) r.why) }
         ensures same { IfErr result (λ r. (r.queue ≡ self) × (r.pass ≡ pass)) };
 
     /// The limits of every kind of queue.
-    ghost limits: { (1 ≤ SEATS) × (SEATS ≤ 16) × (SEATS ≤ CAPACITY) × (CAPACITY ≤ 1048576) };
+    ghost limits: { (1 ≤ SEATS) × (SEATS ≤ max_seats) × (SEATS ≤ CAPACITY) × (CAPACITY ≤ max_capacity) };
 
     /// Each queue keeps the limits of its kind.
-    ghost sized: { (q : Self) → (1 ≤ seats_of q) × (seats_of q ≤ SEATS) × (seats_of q ≤ capacity_of q) × (capacity_of q ≤ CAPACITY) };
+    ghost sized: { (q : Self) →
+        (1 ≤ seats_of q) × (seats_of q ≤ SEATS) × (seats_of q ≤ capacity_of q) × (capacity_of q ≤ CAPACITY) };
 }
 
 /// A shared queue that also takes the least entry only where its key is below a limit.
 pub trait BoundedQueue: SharedQueue {
     /// Takes the least entry, by key and then by id, where its key is below the limit, which is 0 to
-    /// 67,108,864. `Empty` comes exactly where none was held at the call's place, and `Above` exactly where
+    /// `KEY_LIMIT`. `Empty` comes exactly where none was held at the call's place, and `Above` exactly where
     /// some were held and the least key was the limit or above it.
     fn remove_below<R: Wait + Sync>(&self, rt: &R, pass: &mut Self::Pass, limit: u32) -> Below
         requires own { Self.belongs self.now pass.old }
-        requires few { length (Self.known pass.old).calls < 2 ^ 25 - 1 }
-        requires limit { limit ≤ 2 ^ 26 }
+        requires few { length (Self.known pass.old).calls < call_limit - 1 }
+        requires limit { limit ≤ key_limit }
         ensures own { Self.belongs self.now pass.new }
         ensures call { IsRemovedBelow (Self.known pass.old) limit result (Self.known pass.new) }
         ensures key { IsBelow limit result }

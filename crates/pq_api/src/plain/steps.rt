@@ -1,4 +1,5 @@
-ghost use Rattle.std.specs.Prelude.{◌≡◌, ℕ, ◌-◌, ◌^◌, ◌<◌, length};
+//! The steps of a plain pass on its table: the one word counts the calls, and the view keeps them.
+ghost use Rattle.std.specs.Prelude.{◌≡◌, ℕ, ◌-◌, ◌<◌, length};
 ghost use Rattle.pq_model.specs.declared.marks.Act.{Act};
 ghost use Rattle.pq_model.specs.declared.marks.Act.TheVariants.{Remove};
 ghost use Rattle.pq_model.specs.declared.marks.Reply.{Reply};
@@ -6,6 +7,7 @@ ghost use Rattle.pq_model.specs.declared.marks.Reply.TheVariants.{Empty};
 ghost use Rattle.pq_model.specs.declared.passes.Known.{Known};
 ghost use Rattle.pq_model.specs.History.{IsStep, after, left};
 ghost use Rattle.pq_model.specs.Passes.{Knows, fresh};
+ghost use Rattle.pq_api.specs.Limits.{call_limit};
 ghost use Rattle.pq_api.specs.Answers.{MakesCall};
 ghost use Rattle.pq_api.specs.Plain.{IsCounted, IsKept, Draws, Looks, marks_of};
 
@@ -27,25 +29,25 @@ pub type PlainTable = Table<(), Known, (), PlainRule, Global>;
 
 pub type PlainSeat = Seat<(), Known>;
 
-// The call that a step makes. Whoever makes the step picks it.
-trait Making {
+// A kind of call: what is asked and what is answered. Whoever makes a step picks it.
+trait CallKind {
     ghost act: { Act };
 
     ghost reply: { Reply };
 }
 
-impl Making for Brand {
+impl CallKind for Brand {
     ghost act = { Remove };
 
     ghost reply = { Empty };
 }
 
-struct CallStep<J> {
-    of: PhantomData<J>,
+struct CallStep<C> {
+    of: PhantomData<C>,
 }
 
-impl<J: Making> Play<(), Known> for CallStep<J> {
-    ghost then = { λ st m found m'. Draws J.act J.reply m found m' };
+impl<C: CallKind> Play<(), Known> for CallStep<C> {
+    ghost then = { λ st m found m'. Draws C.act C.reply m found m' };
 }
 
 struct LookStep;
@@ -55,14 +57,14 @@ impl Play<(), Known> for LookStep {
 }
 
 // The mark of a call, by one step. Its place comes back, and the view keeps the call.
-fn draw_made<J: Making>(table: &PlainTable, seat: &mut PlainSeat, act: Act, reply: Reply) -> u64
-    requires own { (seat.old.table_id ≡ table.now.shared.table_id) × (table.now.shared.table_id.words ≡ 1) }
-    requires made { (J.act ≡ act) × (J.reply ≡ reply) }
-    requires few { length seat.old.me.0.calls < 2 ^ 25 - 1 }
+fn draw_made<C: CallKind>(table: &PlainTable, seat: &mut PlainSeat, act: Act, reply: Reply) -> u64
+    requires own { (seat.old.table_id ≡ table.now.shared.table_id) × (seat.old.table_id.words ≡ 1) }
+    requires made { (C.act ≡ act) × (C.reply ≡ reply) }
+    requires few { length seat.old.me.0.calls < call_limit - 1 }
     ensures own { seat.new.table_id ≡ seat.old.table_id }
     ensures call { Draws act reply seat.old.me result seat.new.me }
 {
-    table.shared.fetch_add::<CallStep<J>>(seat, 0, 1)
+    table.shared.fetch_add::<CallStep<C>>(seat, 0, 1)
 }
 
 // The same for a pass that keeps its calls, of which this is a step.
@@ -73,8 +75,8 @@ pub fn draw(
     act: Act,
     reply: Reply,
 ) -> Receipt
-    requires own { (seat.old.table_id ≡ table.now.shared.table_id) × (table.now.shared.table_id.words ≡ 1) }
-    requires few { length seat.old.me.0.calls < 2 ^ 25 - 1 }
+    requires own { (seat.old.table_id ≡ table.now.shared.table_id) × (seat.old.table_id.words ≡ 1) }
+    requires few { length seat.old.me.0.calls < call_limit - 1 }
     requires kept { IsKept capacity seat.old.me.0 }
     requires step { IsStep 1 capacity (left (marks_of seat.old.me.0)) act reply }
     ensures own { seat.new.table_id ≡ seat.old.table_id }
@@ -89,8 +91,8 @@ pub fn draw(
 
 // The length of the history, to which the view's front rises.
 pub fn load(table: &PlainTable, seat: &mut PlainSeat) -> u32
-    requires own { (seat.old.table_id ≡ table.now.shared.table_id) × (table.now.shared.table_id.words ≡ 1) }
-    requires few { length seat.old.me.0.calls < 2 ^ 25 }
+    requires own { (seat.old.table_id ≡ table.now.shared.table_id) × (seat.old.table_id.words ≡ 1) }
+    requires few { length seat.old.me.0.calls < call_limit }
     ensures own { seat.new.table_id ≡ seat.old.table_id }
     ensures front { Looks seat.old.me result seat.new.me }
 {
