@@ -1,12 +1,15 @@
-# What the benchmarks share: yardsticks built by rustc, and the best of several runs taken by turns.
+# What the benchmarks share: baselines in plain Rust, built by rustc, and the best of several runs taken by turns.
 top=$(cd "$(dirname "${BASH_SOURCE[0]}")/.." && pwd)
 build=$top/bench/build
 mkdir -p "$build"
 
-# Builds a yardstick, where it is missing or older than its source.
-yardstick() {
-    local source=$top/bench/yardsticks/$1.rs
-    [ "$build/$1" -nt "$source" ] || rustc -O --edition 2024 -o "$build/$1" "$source" || exit 70
+# Builds baselines and makers of inputs, where they are missing or older than their sources.
+baseline() {
+    local name source
+    for name; do
+        source=$top/bench/baselines/$name.rs
+        [ "$build/$name" -nt "$source" ] || rustc -O --edition 2024 -o "$build/$name" "$source" || exit 70
+    done
 }
 
 # The program itself: the one that the variable PQ names, or that of these sources.
@@ -20,14 +23,14 @@ run_once() {
     local input=$1 began ended status
     shift
     began=$(date +%s%N)
-    "$@" <"$input" >"$build/said" 2>"$build/told"
+    "$@" <"$input" >"$build/output" 2>"$build/faults"
     status=$?
     ended=$(date +%s%N)
-    [ "$status" -eq "$wanted" ] || { cat "$build/told" >&2; echo "failed: $*" >&2; exit 1; }
+    [ "$status" -eq "$wanted" ] || { cat "$build/faults" >&2; echo "ends with $status: $*" >&2; exit 1; }
     echo $(((ended - began) / 1000))
 }
 
-# The least time that each of two commands takes, run by turns: compare NAME INPUT ROUNDS ours.. -- yardstick..
+# The least time that each of two commands takes, run by turns: compare NAME INPUT ROUNDS ours.. -- baseline..
 # Where the variable nodes says how many nodes each makes, also the nodes a second.
 nodes=
 compare() {
@@ -43,7 +46,7 @@ compare() {
         [ "$other" -ne 0 ] && [ "$other" -le "$took" ] || other=$took
     done
     awk -v n="$name" -v a="$mine" -v b="$other" -v nodes="$nodes" 'BEGIN {
-        printf "%-28s pq %8.1f ms   plain Rust %8.1f ms   ratio %.2f\n", n, a / 1000, b / 1000, a / b
-        if (nodes != "") printf "%28s pq %8.2f       plain Rust %8.2f million nodes a second, ratio %.2f\n", "", nodes / a, nodes / b, b / a
+        printf "%-44s pq %8.1f ms   plain Rust %8.1f ms   ratio %.2f\n", n, a / 1000, b / 1000, a / b
+        if (nodes != "") printf "%44s pq %8.2f      plain Rust %8.2f million nodes a second\n", "", nodes / a, nodes / b
     }'
 }

@@ -1,4 +1,4 @@
-//! The yardstick of `pq solve shop`: the same dispatching, bound and best-first search in plain Rust, with std's
+//! The baseline of `pq solve shop`: the same dispatching, bound and best-first search in plain Rust, with std's
 //! `BinaryHeap` as the queue. A node is one box of numbers: the ready times of jobs and machines, each job's next
 //! step, and the dispatched jobs, four to a number. The word behind the name is the node limit; what goes to standard
 //! error is how many nodes were made.
@@ -123,7 +123,7 @@ fn main() -> io::Result<()> {
         let node = store[number].take().expect("each node is taken once");
         let cost = best.as_ref().map_or(u32::MAX, |found| found.0);
         if bound >= cost {
-            continue;
+            break;
         }
         let depth = shop.depth(&node);
         if depth == shop.operations.len() {

@@ -1,4 +1,4 @@
-//! The yardstick of `pq audit`: the same reading, replay and verdict in plain Rust. Digits are added up by
+//! The baseline of `pq audit`: the same reading, replay and verdict in plain Rust. Digits are added up by
 //! hand in one pass over the bytes, an entry is one u64, and the multiset is std's `BinaryHeap`.
 use std::cmp::Reverse;
 use std::collections::BinaryHeap;
@@ -9,8 +9,9 @@ use std::process::exit;
 enum Mark {
     Added(u64),
     Full,
-    Got(u64),
+    Got(u64, u32),
     Empty,
+    Above(u32),
 }
 
 struct Words<'a> {
@@ -116,10 +117,19 @@ fn main() -> io::Result<()> {
                 }
             }
             b"-" => match words.word() {
-                b"got" => Mark::Got(words.entry()),
+                b"got" => Mark::Got(words.entry(), u32::MAX),
                 b"empty" => Mark::Empty,
                 _ => words.refuse("word"),
             },
+            b"<" => {
+                let limit = words.number(0, 1 << 26) as u32;
+                match words.word() {
+                    b"got" => Mark::Got(words.entry(), limit),
+                    b"empty" => Mark::Empty,
+                    b"above" => Mark::Above(limit),
+                    _ => words.refuse("word"),
+                }
+            }
             _ => words.refuse("word"),
         };
         words.end_line();
@@ -135,8 +145,9 @@ fn main() -> io::Result<()> {
                 fits
             }
             Mark::Full => held.len() + seats > capacity,
-            Mark::Got(raw) => held.pop() == Some(Reverse(raw)),
+            Mark::Got(raw, limit) => raw >> 22 < u64::from(limit) && held.pop() == Some(Reverse(raw)),
             Mark::Empty => held.is_empty(),
+            Mark::Above(limit) => held.peek().is_some_and(|Reverse(raw)| raw >> 22 >= u64::from(limit)),
         };
         if !is_step {
             println!("bad {place}");
