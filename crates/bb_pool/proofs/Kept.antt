@@ -1,62 +1,68 @@
--- Which nodes a branch keeps: of the nodes looked at so far, those whose bounds are below the best cost.
+-- Which nodes a branch keeps: of the nodes looked at so far, from the last on, those whose bounds are below the
+-- best cost.
 use Rattle.std.proofs.Common.{◌≡◌, ℕ, Bool, true, false, cond, List, [], ◌∷◌, ◌++◌, append-nil, append_assoc, Option, refl, sym, ap, ◌∙◌, subst}
-use Rattle.std.specs.Prelude.{filter}
-use Rattle.std.proofs.lemmas.List.Elements.{filter-append}
-use Rattle.bb_problem.specs.Tree.{Tree}
-use Rattle.bb_pool.specs.declared.state.Child.{Child}
-use Rattle.bb_pool.specs.Searching.{is_better}
-use Rattle.bb_pool.specs.Underway.{StandAt, AreKeyed}
+use Rattle.std.specs.Prelude.{reverse}
+use Rattle.std.proofs.lemmas.List.{reverse-append}
+use Rattle.bb_problem.specs.Meaning.{Meaning}
+use Rattle.bb_pool.specs.declared.child.Child.{Child}
+use Rattle.bb_pool.specs.Costs.{is_better}
+use Rattle.bb_pool.specs.Children.{better_names, AreKept}
 
--- one element more of a list was yielded
-pub yielded_more : {X : Type 0} (all yielded before now : List X) (x : X) → all ≡ yielded ++ before → before ≡ x ∷ now → all ≡ (yielded ++ x ∷ []) ++ now
-yielded_more all yielded before now x is first = is ∙ ap (λ (l : List _). yielded ++ l) first ∙ sym (append_assoc yielded (x ∷ []) now)
+pub keeps_none : {N P : Type 0} (m : Meaning N P) (best : Option ℕ) → AreKept m best [] []
+keeps_none m best [] all = tt
+keeps_none m best (n ∷ ns) all = absurd all
 
-abbrev pub Keeps : {N : Type 0} → (N → List ℕ → Type 0) → Tree → Option ℕ → List N → List (Child N) → Type 0
-Keeps stands tree best nodes kept = (names : List (List ℕ)) → StandAt stands nodes names → AreKeyed stands tree kept (filter (λ (n : List ℕ). is_better (tree.bound n) best) names)
+-- one node more, before the others, is kept or left out
+keeps_first : {N P : Type 0} (m : Meaning N P) (best : Option ℕ) (node : N) (nodes : List N) (kept : List (Child N)) (child : Child N)
+    → child.node ≡ node → ((name : List ℕ) → m.stands node name → child.key ≡ m.tree.bound name) → is_better child.key best ≡ true → AreKept m best nodes kept → AreKept m best (node ∷ nodes) (kept ++ child ∷ [])
+keeps_first m best node nodes kept child is exact good keeps [] all = absurd all
+keeps_first m best node nodes kept child is exact good keeps (n ∷ ns) all =
+    let key = exact n all.0 in
+    let passes : is_better (m.tree.bound n) best ≡ true = ap (λ (k : ℕ). is_better k best) (sym key) ∙ good in
+    let names : better_names m.tree best (n ∷ ns) ≡ n ∷ better_names m.tree best ns = ap (λ (b : Bool). cond b (n ∷ better_names m.tree best ns) (better_names m.tree best ns)) passes in
+    let turned : reverse (kept ++ child ∷ []) ≡ child ∷ reverse kept = reverse-append kept (child ∷ []) in
+    rw turned (rw names (subst (λ x. m.stands x n) (sym is) all.0, key, keeps ns all.1))
 
-pub keeps_none : {N : Type 0} (stands : N → List ℕ → Type 0) (tree : Tree) (best : Option ℕ) → Keeps stands tree best [] []
-keeps_none stands tree best [] all = tt
-keeps_none stands tree best (n ∷ ns) all = absurd all
+leaves_first : {N P : Type 0} (m : Meaning N P) (best : Option ℕ) (node : N) (nodes : List N) (kept : List (Child N)) (bound : ℕ)
+    → ((name : List ℕ) → m.stands node name → bound ≡ m.tree.bound name) → is_better bound best ≡ false → AreKept m best nodes kept → AreKept m best (node ∷ nodes) kept
+leaves_first m best node nodes kept bound exact bad keeps [] all = absurd all
+leaves_first m best node nodes kept bound exact bad keeps (n ∷ ns) all =
+    let key = exact n all.0 in
+    let fails : is_better (m.tree.bound n) best ≡ false = ap (λ (k : ℕ). is_better k best) (sym key) ∙ bad in
+    let names : better_names m.tree best (n ∷ ns) ≡ better_names m.tree best ns = ap (λ (b : Bool). cond b (n ∷ better_names m.tree best ns) (better_names m.tree best ns)) fails in
+    rw names (keeps ns all.1)
 
--- the names of the first nodes, and that of the last
-record Split {N : Type 0} (stands : N → List ℕ → Type 0) (nodes : List N) (node : N) (names : List (List ℕ)) : Type 0 where
-  first : List (List ℕ)
-  last : List ℕ
-  together : names ≡ first ++ last ∷ []
-  stand : StandAt stands nodes first
-  stands_last : stands node last
+-- The nodes that are still to be looked at, and what was kept of those behind them.
+pub record IsKeeping {N P : Type 0} (m : Meaning N P) (best : Option ℕ) (all nodes : List N) (kept : List (Child N)) : Type 0 where
+  pub seen : List N
+  pub whole : all ≡ nodes ++ seen
+  pub keeps : AreKept m best seen kept
 
-split : {N : Type 0} (stands : N → List ℕ → Type 0) (nodes : List N) (node : N) (names : List (List ℕ)) → StandAt stands (nodes ++ node ∷ []) names → Split stands nodes node names
-split stands [] node [] all = absurd all
-split stands [] node (n ∷ []) all = record { first = []; last = n; together = refl; stand = tt; stands_last = all.0 }
-split stands [] node (n ∷ m ∷ ns) all = absurd all.1
-split stands (x ∷ nodes) node [] all = absurd all
-split stands (x ∷ nodes) node (n ∷ ns) all = let s = split stands nodes node ns all.1 in
-    record { first = n ∷ s.first; last = s.last; together = ap (λ (l : List (List ℕ)). n ∷ l) s.together; stand = (all.0, s.stand); stands_last = s.stands_last }
+pub keeping_begun : {N P : Type 0} (m : Meaning N P) (best : Option ℕ) (all : List N) (kept : List (Child N)) → kept ≡ [] → IsKeeping m best all all kept
+keeping_begun m best all kept empty = record { seen = []; whole = sym (append-nil all); keeps = rw empty (keeps_none m best) }
 
-keyed_push : {N : Type 0} (stands : N → List ℕ → Type 0) (tree : Tree) (kept : List (Child N)) (names : List (List ℕ)) (child : Child N) (name : List ℕ) → AreKeyed stands tree kept names → stands child.node name → child.key ≡ tree.bound name → AreKeyed stands tree (kept ++ child ∷ []) (names ++ name ∷ [])
-keyed_push stands tree [] [] child name all st key = (st, key, tt)
-keyed_push stands tree (c ∷ cs) (n ∷ ns) child name all st key = (all.0, all.1, keyed_push stands tree cs ns child name all.2 st key)
-keyed_push stands tree [] (n ∷ ns) child name all st key = absurd all
-keyed_push stands tree (c ∷ cs) [] child name all st key = absurd all
+still_whole : {N : Type 0} (all before now seen : List N) (node : N) → all ≡ before ++ seen → before ≡ now ++ node ∷ [] → all ≡ now ++ node ∷ seen
+still_whole all before now seen node is last = is ∙ ap (λ (l : List _). l ++ seen) last ∙ append_assoc now (node ∷ []) seen
 
-pub keeps_more : {N : Type 0} (stands : N → List ℕ → Type 0) (tree : Tree) (best : Option ℕ) (nodes : List N) (kept : List (Child N)) (child : Child N)
-    → Keeps stands tree best nodes kept → ((name : List ℕ) → stands child.node name → child.key ≡ tree.bound name) → is_better child.key best ≡ true → Keeps stands tree best (nodes ++ child.node ∷ []) (kept ++ child ∷ [])
-keeps_more stands tree best nodes kept child keeps exact good names all = let s = split stands nodes child.node names all in
-    let test : List ℕ → Bool = λ n. is_better (tree.bound n) best in
-    let key = exact s.last s.stands_last in
-    let passes : test s.last ≡ true = ap (λ (n : ℕ). is_better n best) (sym key) ∙ good in
-    let last : filter test (s.last ∷ []) ≡ s.last ∷ [] = ap (λ (b : Bool). cond b (s.last ∷ []) []) passes in
-    let filtered : filter test names ≡ filter test s.first ++ s.last ∷ [] = ap (filter test) s.together ∙ filter-append test s.first (s.last ∷ []) ∙ ap (λ (l : List (List ℕ)). filter test s.first ++ l) last in
-    subst (AreKeyed stands tree (kept ++ child ∷ [])) (sym filtered) (keyed_push stands tree kept (filter test s.first) child s.last (keeps s.first s.stand) s.stands_last key)
+-- the last of the nodes is kept
+pub keeping_more : {N P : Type 0} (m : Meaning N P) (best : Option ℕ) (all before now : List N) (kept kept' : List (Child N)) (child : Child N)
+    → IsKeeping m best all before kept → before ≡ now ++ child.node ∷ [] → kept' ≡ kept ++ child ∷ [] → ((name : List ℕ) → m.stands child.node name → child.key ≡ m.tree.bound name) → is_better child.key best ≡ true
+    → IsKeeping m best all now kept'
+keeping_more m best all before now kept kept' child k last is exact good = record {
+  seen = child.node ∷ k.seen;
+  whole = still_whole all before now k.seen child.node k.whole last;
+  keeps = rw is (keeps_first m best child.node k.seen kept child refl exact good k.keeps);
+}
 
-pub keeps_less : {N : Type 0} (stands : N → List ℕ → Type 0) (tree : Tree) (best : Option ℕ) (nodes : List N) (kept : List (Child N)) (node : N) (bound : ℕ)
-    → Keeps stands tree best nodes kept → ((name : List ℕ) → stands node name → bound ≡ tree.bound name) → is_better bound best ≡ false → Keeps stands tree best (nodes ++ node ∷ []) kept
-keeps_less stands tree best nodes kept node bound keeps exact bad names all = let s = split stands nodes node names all in
-    let test : List ℕ → Bool = λ n. is_better (tree.bound n) best in
-    let key = exact s.last s.stands_last in
-    let fails : test s.last ≡ false = ap (λ (n : ℕ). is_better n best) (sym key) ∙ bad in
-    let last : filter test (s.last ∷ []) ≡ [] = ap (λ (b : Bool). cond b (s.last ∷ []) []) fails in
-    let filtered : filter test names ≡ filter test s.first ++ [] = ap (filter test) s.together ∙ filter-append test s.first (s.last ∷ []) ∙ ap (λ (l : List (List ℕ)). filter test s.first ++ l) last in
-    let first : filter test names ≡ filter test s.first = filtered ∙ append-nil (filter test s.first) in
-    subst (AreKeyed stands tree kept) (sym first) (keeps s.first s.stand)
+-- or left out
+pub keeping_less : {N P : Type 0} (m : Meaning N P) (best : Option ℕ) (all before now : List N) (kept : List (Child N)) (node : N) (bound : ℕ)
+    → IsKeeping m best all before kept → before ≡ now ++ node ∷ [] → ((name : List ℕ) → m.stands node name → bound ≡ m.tree.bound name) → is_better bound best ≡ false
+    → IsKeeping m best all now kept
+keeping_less m best all before now kept node bound k last exact bad = record {
+  seen = node ∷ k.seen;
+  whole = still_whole all before now k.seen node k.whole last;
+  keeps = leaves_first m best node k.seen kept bound exact bad k.keeps;
+}
+
+pub keeping_done : {N P : Type 0} (m : Meaning N P) (best : Option ℕ) (all nodes : List N) (kept : List (Child N)) → IsKeeping m best all nodes kept → nodes ≡ [] → AreKept m best all kept
+keeping_done m best all nodes kept k none = let whole : all ≡ k.seen = k.whole ∙ ap (λ (l : List _). l ++ k.seen) none in rw whole k.keeps

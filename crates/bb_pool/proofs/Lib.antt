@@ -1,9 +1,10 @@
+-- Proofs of the search, from lists and costs up to its turns.
 pub mod Members
 pub mod Totals
-pub mod Stored
+pub mod Costs
+pub mod Names
 pub mod Needs
+pub mod Counts
 pub mod Searches
-pub mod Places
-pub mod Turns
 pub mod Kept
-pub mod Calls
+pub mod OnePass

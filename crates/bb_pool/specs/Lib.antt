@@ -1,5 +1,7 @@
+-- What a search over a priority queue means, by name.
+pub mod Costs
 pub mod Outcomes
-pub mod Laws
+pub mod Children
 pub mod Searching
 pub mod Underway
 pub mod Picks

@@ -1,6 +1,8 @@
 //! Branch and bound over a priority queue: the node of least bound first.
 #![tactic(auto)]
 
+mod child;
+mod children;
 mod outcome;
 mod plain;
 mod state;

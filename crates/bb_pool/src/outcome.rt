@@ -1,3 +1,5 @@
+//! How a search ends.
+
 use pq_io::NoMemory;
 
 /// How a search ended.

@@ -1,17 +1,20 @@
-ghost use Rattle.std.specs.Prelude.{ℕ, ◌≡◌, ◌≤◌, ◌<◌, ◌↔◌, List, [], filter, IfOk, IfErr, IsSome, length};
-ghost use Rattle.pq_model.specs.Passes.{fresh};
-ghost use Rattle.bb_problem.specs.Tree.{needed};
-ghost use Rattle.bb_pool.specs.Outcomes.{IsOutcome, IsStop, outcome_of};
-ghost use Rattle.bb_pool.specs.Searching.{is_better};
-ghost use Rattle.bb_pool.specs.Underway.{IsUnderway, StandAt, AreKeyed, IsTurn, best_outcome};
+//! The search with one caller, over a plain queue.
 
+ghost use Rattle.std.specs.Prelude.{ℕ, ◌≡◌, ◌≤◌, ◌<◌, List, [], IfOk, IfErr, IsSome, length};
+ghost use Rattle.pq_model.specs.Passes.{fresh};
+ghost use Rattle.bb_pool.specs.Outcomes.{IsOutcome, IsStop, outcome_of, IfNodeLimit};
+ghost use Rattle.bb_pool.specs.Children.{StandAt};
+ghost use Rattle.bb_pool.specs.Underway.{IsUnderway, IsTurn, best_outcome};
+
+use crate::child::Child;
+use crate::children::{is_below, keep};
 use crate::outcome::{Outcome, Stop};
-use crate::state::{Child, Found, Search};
-use bb_problem::{Problem, Step};
+use crate::state::{Found, Search};
+use bb_problem::{Problem, Step, needed_is_at_most_tree_size};
 use pq_api::PlainPass;
-use pq_io::NoMemory;
 use pq_model::left_rises;
 use std::alloc::Global;
+use std::ops::ControlFlow;
 
 /// Searches for a feasible plan of least cost, the node of least bound first, with one caller. It returns
 /// always.
@@ -37,26 +40,22 @@ pub fn search_plain<P: Problem>(
 ) -> Outcome<P::Plan>
     requires fresh { pass.known ≡ fresh 1 }
     requires nodes { (1 ≤ nodes) × (nodes ≤ 1048560) }
-    ensures { IsOutcome (P.is_feasible problem.now) (P.cost_of problem.now) nodes pass.capacity (needed (P.tree problem.now) (P.least problem.now)) result }
+    ensures outcome { IsOutcome (P.meaning problem.now) nodes pass.capacity result }
+    // A node limit of the tree's size is never too low.
+    ensures below_size { IfNodeLimit result (λ asked limit. limit < (P.meaning problem.now).tree_size) }
 {
+    needed_is_at_most_tree_size(problem);
     let mut search = match begin(alloc, problem, pass, nodes) {
         Ok(search) => search,
         Err(stop) => return stopped(stop, nodes),
     };
     loop {
         match take_turn(alloc, problem, &mut search, nodes) {
-            Ok(Turn::Goes) => {}
-            Ok(Turn::Ends) => return finish(search),
+            Ok(ControlFlow::Continue(())) => {}
+            Ok(ControlFlow::Break(())) => return finish(search),
             Err(stop) => return stopped(stop, nodes),
         }
     }
-}
-
-/// Whether a search goes on after a turn.
-#[derive(Clone, Copy)]
-enum Turn {
-    Goes,
-    Ends,
 }
 
 // The search with the root in the queue, under the number 0.
@@ -68,8 +67,9 @@ fn begin<P: Problem>(
 ) -> Result<Search<P::Node, P::Plan>, Stop>
     requires fresh { pass.known ≡ fresh 1 }
     requires nodes { (1 ≤ nodes) × (nodes ≤ 1048560) }
-    ensures begun { IfOk result (λ search. IsUnderway (P.is_feasible problem.now) (P.cost_of problem.now) (P.stands problem.now) (P.reaches problem.now) (P.tree problem.now) (P.least problem.now) nodes pass.capacity search []) }
-    ensures stops { IfErr result (IsStop nodes pass.capacity (needed (P.tree problem.now) (P.least problem.now))) }
+    ensures valid { P.is_problem problem.now }
+    ensures begun { IfOk result (λ search. IsUnderway (P.meaning problem.now) nodes pass.capacity search []) }
+    ensures stops { IfErr result (IsStop (P.meaning problem.now) nodes pass.capacity) }
 {
     let root = problem.root(alloc)?;
     let Ok(store) = Vec::with_capacity(alloc, nodes as usize) else {
@@ -79,6 +79,7 @@ fn begin<P: Problem>(
     let mut search = Search {
         pass,
         store,
+        kept: Vec::new(alloc),
         best: None,
     };
     search.put(Child { key, node: root })?;
@@ -91,19 +92,19 @@ fn take_turn<P: Problem>(
     problem: &P,
     search: &mut Search<P::Node, P::Plan>,
     nodes: u32,
-) -> Result<Turn, Stop>
+) -> Result<ControlFlow<()>, Stop>
     requires nodes { nodes ≤ 1048560 }
-    requires underway { IsUnderway (P.is_feasible problem.now) (P.cost_of problem.now) (P.stands problem.now) (P.reaches problem.now) (P.tree problem.now) (P.least problem.now) nodes search.old.pass.capacity search.old [] }
-    ensures turn { IfOk result (λ turn. IsTurn (P.is_feasible problem.now) (P.cost_of problem.now) (P.stands problem.now) (P.reaches problem.now) (P.tree problem.now) (P.least problem.now) nodes search.old.pass.capacity search.old turn search.new) }
-    ensures stops { IfErr result (IsStop nodes search.old.pass.capacity (needed (P.tree problem.now) (P.least problem.now))) }
+    requires underway { IsUnderway (P.meaning problem.now) nodes search.old.pass.capacity search.old [] }
+    ensures turn { IfOk result (λ flow. IsTurn (P.meaning problem.now) nodes search.old.pass.capacity search.old flow search.new) }
+    ensures stops { IfErr result (IsStop (P.meaning problem.now) nodes search.old.pass.capacity) }
 {
     left_rises();
     let Some(child) = search.take() else {
-        return Ok(Turn::Ends);
+        return Ok(ControlFlow::Break(()));
     };
     let best = search.best_cost();
     if !is_below(child.key, best) {
-        return Ok(Turn::Goes);
+        return Ok(ControlFlow::Continue(()));
     }
     match problem.expand(alloc, child.node)? {
         Step::Leaf(plan) => {
@@ -112,73 +113,46 @@ fn take_turn<P: Problem>(
                 search.best = Some(Found { plan, cost });
             }
         }
-        Step::Branch(children) => branch(alloc, problem, search, children, nodes)?,
+        Step::Branch(children) => branch(problem, search, children, nodes)?,
     }
-    Ok(Turn::Goes)
+    Ok(ControlFlow::Continue(()))
 }
 
 // Puts the children whose bounds are below the best cost.
 fn branch<P: Problem>(
-    alloc: Global,
     problem: &P,
     search: &mut Search<P::Node, P::Plan>,
     children: Vec<P::Node>,
     nodes: u32,
 ) -> Result<(), Stop>
     requires nodes { nodes ≤ 1048560 }
-    requires underway { (waiting : List (List ℕ)) × StandAt (P.stands problem.now) children.items waiting × IsUnderway (P.is_feasible problem.now) (P.cost_of problem.now) (P.stands problem.now) (P.reaches problem.now) (P.tree problem.now) (P.least problem.now) nodes search.old.pass.capacity search.old waiting }
+    requires underway { (waiting : List (List ℕ)) × StandAt (P.meaning problem.now).stands children.items waiting
+        × IsUnderway (P.meaning problem.now) nodes search.old.pass.capacity search.old waiting }
     ensures calls { IfOk result (λ _. length search.old.pass.known.calls ≤ length search.new.pass.known.calls) }
-    ensures underway { IfOk result (λ _. IsUnderway (P.is_feasible problem.now) (P.cost_of problem.now) (P.stands problem.now) (P.reaches problem.now) (P.tree problem.now) (P.least problem.now) nodes search.old.pass.capacity search.new []) }
-    ensures stops { IfErr result (IsStop nodes search.old.pass.capacity (needed (P.tree problem.now) (P.least problem.now))) }
+    ensures underway { IfOk result (λ _. IsUnderway (P.meaning problem.now) nodes search.old.pass.capacity search.new []) }
+    ensures stops { IfErr result (IsStop (P.meaning problem.now) nodes search.old.pass.capacity) }
 {
-    let kept = kept(alloc, problem, children, search.best_cost())?;
-    let asked = search.store.len() as u64 + kept.len() as u64;
+    let best = search.best_cost();
+    keep(problem, children, best, &mut search.kept)?;
+    let asked = search.store.len() as u64 + search.kept.len() as u64;
     if asked > u64::from(nodes) {
         return Err(Stop::NodeLimit { asked });
     }
-    for child in kept {
+    while let Some(child) = search.kept.pop() {
         search.put(child)?;
     }
     Ok(())
 }
 
-// The nodes whose bounds are below the best cost, in order, with these bounds.
-fn kept<P: Problem>(
-    alloc: Global,
-    problem: &P,
-    children: Vec<P::Node>,
-    best: Option<u32>,
-) -> Result<Vec<Child<P::Node>>, NoMemory>
-    ensures { IfOk result (λ kept. (names : List (List ℕ)) → StandAt (P.stands problem.now) children.items names → AreKeyed (P.stands problem.now) (P.tree problem.now) kept.items (filter (λ name. is_better ((P.tree problem.now).bound name) best) names)) }
-{
-    let mut kept = Vec::new(alloc);
-    for node in children {
-        let key = problem.bound(&node);
-        if is_below(key, best) {
-            kept.push(Child { key, node })?;
-        }
-    }
-    Ok(kept)
-}
-
-// Whether the cost is below the best so far.
-fn is_below(cost: u32, best: Option<u32>) -> bool
-    ensures { result ≡ is_better cost best }
-{
-    match best {
-        Some(best) => cost < best,
-        None => true,
-    }
-}
-
 // The outcome of a search whose queue is empty: its best plan.
-fn finish<N: Drop, L: Drop>(search: Search<N, L>) -> Outcome<L>
+fn finish<N: Drop, P: Drop>(search: Search<N, P>) -> Outcome<P>
     requires { IsSome search.best }
     ensures { result ≡ best_outcome search.best }
 {
     let Search {
         pass: _,
         store: _,
+        kept: _,
         best,
     } = search;
     let Some(Found { plan, cost }) = best else {
@@ -187,7 +161,7 @@ fn finish<N: Drop, L: Drop>(search: Search<N, L>) -> Outcome<L>
     Outcome::Best { plan, cost }
 }
 
-fn stopped<L>(stop: Stop, limit: u32) -> Outcome<L>
+fn stopped<P>(stop: Stop, limit: u32) -> Outcome<P>
     ensures { result ≡ outcome_of stop limit }
 {
     match stop {

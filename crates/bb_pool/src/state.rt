@@ -1,35 +1,31 @@
+//! The state of a search with one caller, and its two steps on the queue and the store.
+
 ghost use Rattle.std.specs.Prelude.{◌≡◌, ℕ, [], ◌-◌, ◌^◌, ◌<◌, length, All, IfOk, IfErr, MatchOption, IsTrue, ◌↔◌};
 ghost use Rattle.pq_api.specs.Plain.{held};
 
+use crate::child::Child;
 use crate::outcome::Stop;
 use pq_api::{Inserted, PlainPass, Removed, one_seat_has_made_all};
 use pq_words::Entry;
 
 /// A plan that a leaf gave, with its cost.
 #[derive(Drop)]
-pub(crate) struct Found<L> {
-    pub(crate) plan: L,
+pub(crate) struct Found<P> {
+    pub(crate) plan: P,
     pub(crate) cost: u32,
 }
 
-/// A node with its bound, which is below 2^26.
+/// A search with one caller: the queue's pass, the nodes made so far by number, each until it is taken, the
+/// children kept of the branch at hand, and the best plan so far.
 #[derive(Drop)]
-pub(crate) struct Child<N> {
-    pub(crate) key: u32,
-    pub(crate) node: N,
-    pub(crate) ghost key_fits: { key < 2 ^ 26 },
-}
-
-/// A search with one caller: the queue's pass, the nodes made so far by number, each until it is taken, and
-/// the best plan so far.
-#[derive(Drop)]
-pub(crate) struct Search<N, L> {
+pub(crate) struct Search<N, P> {
     pub(crate) pass: PlainPass,
     pub(crate) store: Vec<Option<N>>,
-    pub(crate) best: Option<Found<L>>,
+    pub(crate) kept: Vec<Child<N>>,
+    pub(crate) best: Option<Found<P>>,
 }
 
-impl<N: Drop, L: Drop> Search<N, L> {
+impl<N: Drop, P: Drop> Search<N, P> {
     ghost use Rattle.bb_pool.specs.Underway.{cost_so_far, IsPut, IsNotPut, IsStored, IsTaken};
 
     /// The cost of the best plan so far.
@@ -70,7 +66,8 @@ impl<N: Drop, L: Drop> Search<N, L> {
     pub(crate) fn take(&mut self) -> Option<Child<N>>
         requires stored { All (IsStored self.old.store.items) (held self.old.pass) }
         requires calls { length self.old.pass.known.calls < 2 ^ 25 - 1 }
-        ensures { MatchOption result ((held self.old.pass ≡ []) × (self.new.best ≡ self.old.best)) (λ child. IsTaken self.old child self.new) }
+        ensures { MatchOption result ((held self.old.pass ≡ []) × (self.new.best ≡ self.old.best))
+            (λ child. IsTaken self.old child self.new) }
     {
         match self.pass.take() {
             Removed::Got(e, _) => {

@@ -1,6 +1,7 @@
-ghost use Rattle.std.specs.Prelude.{◌≤◌, ◌≡◌, refl};
-ghost use Rattle.std.proofs.Common.{lit≤};
-ghost use Rattle.bb_pool.specs.Picks.{picks, Stands, some_child, children_differ, leaves_end, four};
+//! Tests of the search on a small problem.
+
+ghost use Rattle.std.specs.Prelude.{◌≤◌};
+ghost use Rattle.bb_pool.specs.Picks.{meaning, lawful};
 
 use super::*;
 use bb_problem::{Problem, Step};
@@ -19,19 +20,7 @@ impl Problem for Picks {
 
     ghost is_problem = { λ _. Unit {0} };
 
-    ghost is_feasible = { λ _ _. Unit {0} };
-
-    ghost cost_of = { λ _ _. 4 };
-
-    ghost least = { λ _. 4 };
-
-    ghost tree = { λ _. picks };
-
-    ghost tree_size = { λ _. 4 };
-
-    ghost stands = { λ _. Stands };
-
-    ghost reaches = { λ _ _ v. 4 ≤ v };
+    ghost meaning = { λ _. meaning };
 
     fn root(&self, _alloc: Global) -> Result<bool, NoMemory> {
         Ok(true)
@@ -54,21 +43,7 @@ impl Problem for Picks {
         4
     }
 
-    ghost reached = { λ p plan valid feasible. lit≤ tt };
-
-    ghost bounded = { λ p name v valid r. r };
-
-    ghost passed_on = { λ p name v valid r some. some_child name v r some };
-
-    ghost told_apart = { λ p name valid. children_differ name };
-
-    ghost ends = { λ p name valid le. leaves_end name le };
-
-    ghost attained = { λ p valid. (9, tt, refl) };
-
-    ghost least_of_all = { λ p plan valid feasible. lit≤ tt };
-
-    ghost counted = { λ p valid few. four };
+    ghost lawful = { λ p valid. lawful };
 }
 
 // How a search on a fresh queue of this capacity ends, under this node limit.

@@ -1,18 +1,11 @@
 use Rattle.std.proofs.Common.{refl, ap, length, arith, []}
-use Rattle.bb_pool.specs.Laws.{IsLawful}
-use Rattle.bb_pool.proofs.Calls.{begun}
-use Rattle.bb_pool.proofs.Turns.{put_underway}
+use Rattle.bb_problem.specs.Meaning.{IsLawful}
+use Rattle.bb_pool.proofs.OnePass.Calls.{begun}
+use Rattle.bb_pool.proofs.OnePass.Turns.{put_underway}
 use Rattle.bb_pool.proofs.plain.begin.Goals as goal
 
 pub returns-clause-begun : goal.returns-clause-begun
 returns-clause-begun g c = let p = c.args.problem.now in let valid = c.in_ok-root.ensures.valid in
-    let met = g.met.P.Problem g.world.𝓛 g.world.𝓜 g.world.𝓡 ((λ s x. x), (λ x. x), (λ x. x), λ x. x) in
-    let laws : IsLawful (g.P.Problem.is_feasible p) (g.P.Problem.cost_of p) (g.P.Problem.reaches p) (g.P.Problem.tree p) (g.P.Problem.least p) = record {
-      reached = λ plan is. met.reached p plan valid is;
-      bounded = λ name v r. met.bounded p name v valid r;
-      passed_on = λ name v r some. met.passed_on p name v valid r some;
-      ends = λ name le. met.ends p name valid le;
-      attained = met.attained p valid;
-    } in
+    let laws : IsLawful (g.P.Problem.meaning p) = (g.met.P.Problem g.world.𝓛 g.world.𝓜 g.world.𝓡 ((λ s x. x), (λ x. x), (λ x. x), λ x. x)).lawful p valid in
     put_underway [] [] _ (begun c.args.nodes _ laws c.requires.fresh c.in-Ok.ensures.items refl) c.in_ok-put.ensures.put c.in_ok-root.ensures.root (c.bound-key.ensures.exact [] c.in_ok-root.ensures.root)
     (let none = ap length c.in-Ok.ensures.items in let some = c.requires.nodes.0 in omega arith)

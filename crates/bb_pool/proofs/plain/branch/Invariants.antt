@@ -1,6 +1,9 @@
-use Rattle.std.proofs.Common.{length}
-use Rattle.bb_pool.proofs.Turns.{IsPutting}
+use Rattle.std.proofs.Common.{length, vec_len}
+use Rattle.bb_pool.proofs.OnePass.Putting.{IsPutting}
 use Rattle.bb_pool.proofs.plain.branch.Given as goal
 
 abbrev pub invariant-loop-child : goal.invariant-loop-child
-invariant-loop-child g l = let p = l.problem in IsPutting (g.P.Problem.is_feasible p) (g.P.Problem.cost_of p) (g.P.Problem.stands p) (g.P.Problem.reaches p) (g.P.Problem.tree p) (g.P.Problem.least p) l.nodes l.fn.search.pass.capacity (length l.fn.search.pass.known.calls) l.search l.child-iterator.rest.items
+invariant-loop-child g l = IsPutting (g.P.Problem.meaning l.problem) l.nodes l.fn.search.pass.capacity (length l.fn.search.pass.known.calls) l.search l.search.kept.items
+
+abbrev pub decreases-loop-child : goal.decreases-loop-child
+decreases-loop-child g l = vec_len l.search.kept

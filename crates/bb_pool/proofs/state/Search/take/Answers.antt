@@ -1,7 +1,7 @@
 use Rattle.std.proofs.Common.{refl, sym, ap, ◌∙◌, set}
 use Rattle.pq_api.specs.Plain.{held}
 use Rattle.bb_pool.specs.Underway.{IsStored}
-use Rattle.bb_pool.proofs.Calls.{take_made, of_least, node_in_slot}
+use Rattle.bb_pool.proofs.OnePass.Calls.{take_made, of_least, node_in_slot}
 use Rattle.bb_pool.proofs.state.Search.take.Goals as goal
 
 pub returns-in-Some : goal.returns-in-Some

@@ -1,5 +1,5 @@
 -- What a call of the queue did, said of a search's fields.
-use Rattle.std.proofs.Common.{◌≡◌, ℕ, ◌+◌, List, [], ◌∷◌, ◌++◌, length, get_or, set, Some, None, Option, refl, sym, ap, ◌∙◌, subst, arith}
+use Rattle.std.proofs.Common.{◌≡◌, ℕ, ◌+◌, ◌<◌, List, [], ◌∷◌, ◌++◌, length, get_or, set, Some, None, Option, refl, sym, ap, ◌∙◌, subst, arith}
 use Rattle.std.specs.Prelude.{slice_get, All}
 use Rattle.std.proofs.lemmas.Option.{get_or_from_slice_get}
 use Rattle.std.proofs.lemmas.List.{length-append}
@@ -15,32 +15,33 @@ use Rattle.pq_model.specs.Passes.{call, fresh, with_call}
 use Rattle.pq_model.proofs.Multisets.{with_least}
 use Rattle.pq_api.specs.Plain.{held, marks_of}
 use Rattle.pq_model.specs.History.{left}
-use Rattle.bb_problem.specs.Tree.{Tree}
-use Rattle.bb_pool.specs.declared.state.Child.{Child}
+use Rattle.bb_problem.specs.Meaning.{Meaning, IsLawful}
+use Rattle.bb_pool.specs.declared.child.Child.{Child}
 use Rattle.bb_pool.specs.declared.state.Search.{Search}
-use Rattle.bb_pool.specs.Laws.{IsLawful}
 use Rattle.bb_pool.specs.Underway.{cost_so_far, IsFound, IsUnderway, IsPut, IsStored, IsTaken}
 use Rattle.bb_pool.proofs.Searches.{root_waits}
-use Rattle.bb_pool.proofs.Turns.{same_search}
+use Rattle.bb_pool.proofs.OnePass.Turns.{same_search}
 
 one_more : (before now : Known) (place : ℕ) (act : Act) (reply : Reply) → now ≡ with_call before place act reply → length now.calls ≡ length before.calls + 1
 one_more before now place act reply is = ap (λ (k : Known). length k.calls) is ∙ length-append before.calls (call place act reply ∷ [])
 
-pub put_made : {N L : Type 0} {before now : Search N L} {child : Child N} (e : Entry) (place : ℕ) → now.pass.known ≡ with_call before.pass.known place (Insert e) Done → held now.pass ≡ add e (held before.pass) → e.key ≡ child.key → e.id ≡ length before.store.items
-    → now.store.items ≡ before.store.items ++ Some child.node ∷ [] → now.pass.capacity ≡ before.pass.capacity → now.best ≡ before.best → IsPut before child now
-put_made {before} {now} e place called added key id stored capacity best = record {
+pub put_made : {N P : Type 0} {before now : Search N P} {child : Child N} (e : Entry) (place : ℕ) → length (held before.pass) < before.pass.capacity → now.pass.known ≡ with_call before.pass.known place (Insert e) Done → held now.pass ≡ add e (held before.pass) → e.key ≡ child.key → e.id ≡ length before.store.items
+    → now.store.items ≡ before.store.items ++ Some child.node ∷ [] → now.pass.capacity ≡ before.pass.capacity → now.best ≡ before.best → now.kept ≡ before.kept → IsPut before child now
+put_made {before} {now} e place room called added key id stored capacity best kept = record {
   entry = e;
   key = key;
   id = id;
   stored = stored;
+  room = room;
   added = added;
   calls = one_more before.pass.known now.pass.known place (Insert e) Done called;
   number = ap (λ (k : Known). k.number) called;
   capacity = capacity;
   best = best;
+  kept = kept;
 }
 
-pub take_made : {N L : Type 0} {before now : Search N L} {child : Child N} (e : Entry) (place : ℕ) → now.pass.known ≡ with_call before.pass.known place Remove (Got e) → least (held before.pass) ≡ Some e → held now.pass ≡ without_least (held before.pass) → child.key ≡ e.key
+pub take_made : {N P : Type 0} {before now : Search N P} {child : Child N} (e : Entry) (place : ℕ) → now.pass.known ≡ with_call before.pass.known place Remove (Got e) → least (held before.pass) ≡ Some e → held now.pass ≡ without_least (held before.pass) → child.key ≡ e.key
     → slice_get before.store.items e.id ≡ Some (Some child.node) → now.store.items ≡ set before.store.items e.id None → now.pass.capacity ≡ before.pass.capacity → now.best ≡ before.best → IsTaken before child now
 take_made {before} {now} e place called first rest key node emptied capacity best = record {
   entry = e;
@@ -55,18 +56,17 @@ take_made {before} {now} e place called first rest key node emptied capacity bes
 }
 
 -- a search whose queue has had no call yet, with the root still to be put
-pub begun : {L N : Type 0} {feasible : L → Type 0} {cost_of : L → ℕ} {stands : N → List ℕ → Type 0} {reaches : List ℕ → ℕ → Type 0} {tree : Tree} {least : ℕ} (nodes : ℕ) (before : Search N L)
-    → IsLawful feasible cost_of reaches tree least → before.pass.known ≡ fresh 1 → before.store.items ≡ [] → before.best ≡ None
-    → IsUnderway feasible cost_of stands reaches tree least nodes before.pass.capacity before ([] ∷ [])
-begun {feasible} {cost_of} {stands} {reaches} {tree} {least} nodes before laws is empty none =
+pub begun : {N P : Type 0} {m : Meaning N P} (nodes : ℕ) (before : Search N P) → IsLawful m → before.pass.known ≡ fresh 1 → before.store.items ≡ [] → before.best ≡ None
+    → IsUnderway m nodes before.pass.capacity before ([] ∷ [])
+begun {m} nodes before laws is empty none =
     let nothing : held before.pass ≡ [] = ap (λ (k : Known). left (marks_of k)) is in
     let calls : before.pass.known.calls ≡ [] = ap (λ (k : Known). k.calls) is in
     let length_calls : length before.pass.known.calls ≡ 0 = ap length calls in let length_held : length (held before.pass) ≡ 0 = ap length nothing in let length_store : length before.store.items ≡ 0 = ap length empty in
     record {
       lawful = laws;
       names = [];
-      searching = same_search (sym nothing) (sym empty) (ap cost_so_far (sym none)) (root_waits stands reaches tree least);
-      found = subst (IsFound feasible cost_of) (sym none) tt;
+      searching = same_search (sym nothing) (sym empty) (ap cost_so_far (sym none)) (root_waits m before.pass.capacity);
+      found = subst (IsFound m) (sym none) tt;
       calls = omega arith;
       number = ap (λ (k : Known). k.number) is;
       within = omega arith;

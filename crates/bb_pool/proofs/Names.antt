@@ -9,7 +9,7 @@ use Rattle.pq_words.specs.Entries.{raw_of}
 use Rattle.pq_model.specs.Multiset.{add}
 use Rattle.pq_model.proofs.Choices.{by_test}
 use Rattle.pq_model.proofs.Multisets.{All-add}
-use Rattle.bb_problem.specs.Tree.{Tree}
+use Rattle.bb_problem.specs.Meaning.{Meaning}
 use Rattle.bb_pool.specs.Searching.{name_at, StandsFor, IdsDiffer}
 
 pub slice_get-push : {X : Type 0} (xs : List X) (y : X) (n : ℕ) (x : X) → slice_get xs n ≡ Some x → slice_get (xs ++ y ∷ []) n ≡ Some x
@@ -34,19 +34,19 @@ name_at-push names name n lt = get_or_append_left names (name ∷ []) [] n lt
 pub name_at-new : (names : List (List ℕ)) (name : List ℕ) (n : ℕ) → length names ≡ n → name_at (names ++ name ∷ []) n ≡ name
 name_at-new names name n is = get_or_push names name [] n is
 
-pub id_within : {N : Type 0} {stands : N → List ℕ → Type 0} {tree : Tree} {names : List (List ℕ)} {store : List (Option N)} {e : Entry} → StandsFor stands tree names store e → e.id < length store
+pub id_within : {N P : Type 0} {m : Meaning N P} {names : List (List ℕ)} {store : List (Option N)} {e : Entry} → StandsFor m names store e → e.id < length store
 id_within {store} {e} s = slice_get_within store e.id (Some s.node) s.stored
 
-pub StandsFor-push : {N : Type 0} {stands : N → List ℕ → Type 0} {tree : Tree} {names : List (List ℕ)} {store : List (Option N)} {e : Entry} (name : List ℕ) (slot : Option N) → length names ≡ length store → StandsFor stands tree names store e → StandsFor stands tree (names ++ name ∷ []) (store ++ slot ∷ []) e
-StandsFor-push {stands} {tree} {names} {store} {e} name slot count s = let within : e.id < length names = omega (arith, id_within s) in
+pub StandsFor-push : {N P : Type 0} {m : Meaning N P} {names : List (List ℕ)} {store : List (Option N)} {e : Entry} (name : List ℕ) (slot : Option N) → length names ≡ length store → StandsFor m names store e → StandsFor m (names ++ name ∷ []) (store ++ slot ∷ []) e
+StandsFor-push {m} {names} {store} {e} name slot count s = let within : e.id < length names = omega (arith, id_within s) in
     let same : name_at names e.id ≡ name_at (names ++ name ∷ []) e.id = sym (name_at-push names name e.id within) in record {
       node = s.node;
       stored = slice_get-push store slot e.id (Some s.node) s.stored;
-      named = subst (λ (n : List ℕ). stands s.node n) same s.named;
-      keyed = s.keyed ∙ ap (λ (n : List ℕ). tree.bound n) same;
+      named = subst (λ (n : List ℕ). m.stands s.node n) same s.named;
+      keyed = s.keyed ∙ ap (λ (n : List ℕ). m.tree.bound n) same;
     }
 
-pub StandsFor-set : {N : Type 0} {stands : N → List ℕ → Type 0} {tree : Tree} {names : List (List ℕ)} {store : List (Option N)} {e : Entry} (i : ℕ) → (e.id ≡ i → ⊥) → StandsFor stands tree names store e → StandsFor stands tree names (set store i None) e
+pub StandsFor-set : {N P : Type 0} {m : Meaning N P} {names : List (List ℕ)} {store : List (Option N)} {e : Entry} (i : ℕ) → (e.id ≡ i → ⊥) → StandsFor m names store e → StandsFor m names (set store i None) e
 StandsFor-set {store} {e} i apart s = record { node = s.node; stored = slice_get-set store i e.id None apart ∙ s.stored; named = s.named; keyed = s.keyed }
 
 pub IdsDiffer-add : (e : Entry) (m : List Entry) → All (λ (f : Entry). f.id ≡ e.id → ⊥) m → IdsDiffer m → IdsDiffer (add e m)

@@ -1,0 +1,244 @@
+-- The turns of a search with one caller, by its fields.
+use Rattle.std.proofs.Common.{◌≡◌, ℕ, ◌+◌, ◌^◌, ◌<◌, ◌≤◌, true, false, List, [], ◌∷◌, ◌++◌, length, map, set, Some, None, Option, refl, sym, ap, ◌∙◌, subst, inl, inr, arith}
+use Rattle.std.specs.Prelude.{All, IsTrue, IsSome}
+use Rattle.std.proofs.lemmas.Bool.{cases_lt}
+use Rattle.std.proofs.lemmas.List.{length-append, length-set}
+use Rattle.std.proofs.lemmas.List.Elements.{All-nil, All-head, All-weaker}
+use Rattle.pq_words.specs.declared.entries.Entry.{Entry}
+use Rattle.pq_model.specs.Multiset.{IsRising}
+use Rattle.pq_model.proofs.Multisets.{length-add}
+use Rattle.pq_api.specs.Plain.{held}
+use Rattle.bb_problem.specs.Tree.{below, needed}
+use Rattle.bb_problem.specs.Meaning.{Meaning, IsLawful}
+use Rattle.bb_problem.specs.declared.step.Step.{Step}
+use Rattle.bb_problem.specs.declared.step.Step.TheVariants.{Leaf, Branch}
+use Rattle.bb_problem.specs.Expanding.{StandBelow, IsExpanded, IsInRange}
+use Rattle.std.specs.Prelude.{Vec}
+use Rattle.std.specs.declared.alloc.Global.{Global}
+use Rattle.bb_pool.specs.declared.outcome.Stop.{Stop}
+use Rattle.bb_pool.specs.declared.outcome.Stop.TheVariants.{NodeLimit, Full, NoMemory}
+use Rattle.bb_pool.specs.declared.child.Child.{Child}
+use Rattle.bb_pool.specs.declared.state.Found.{Found}
+use Rattle.bb_pool.specs.declared.state.Search.{Search}
+use Rattle.bb_pool.specs.Costs.{is_better, IsAtLeast}
+use Rattle.bb_pool.specs.Outcomes.{IsStop, IsOutcome, IfNodeLimit, outcome_of}
+use Rattle.bb_pool.specs.Children.{StandAt, better_names}
+use Rattle.bb_pool.specs.Searching.{name_at, StandsFor, IsSearching}
+use Rattle.bb_pool.specs.Underway.{cost_so_far, IsFound, IsUnderway, IsPut, IsNotPut, IsStored, IsTaken, IsOver, best_outcome}
+use Rattle.bb_pool.proofs.Costs.{better_below, not_better, not_below_itself, below_better}
+use Rattle.bb_pool.proofs.Needs.{unavoidable_leaf, unavoidable_high, open_leaf}
+use Rattle.bb_pool.proofs.Counts.{ahead_dropped, ahead_found, all_made}
+use Rattle.bb_pool.proofs.Searches.{node_put, node_closed, key_at_most_least, node_branched, better_kept, some_best, best_is_least}
+
+-- the same search, by equal parts
+pub same_search : {N P : Type 0} {m : Meaning N P} {capacity : ℕ} {names : List (List ℕ)} {entries entries' : List Entry} {store store' : List (Option N)} {waiting : List (List ℕ)} {best best' : Option ℕ}
+    → entries ≡ entries' → store ≡ store' → best ≡ best' → IsSearching m capacity names entries store waiting best → IsSearching m capacity names entries' store' waiting best'
+same_search {N} {P} {m} {capacity} {names} {entries} {entries'} {store} {store'} {waiting} {best} {best'} e f g s =
+    subst (λ (b : Option ℕ). IsSearching m capacity names entries' store' waiting b) g
+    (subst (λ (x : List (Option N)). IsSearching m capacity names entries' x waiting best) f
+    (subst (λ (es : List Entry). IsSearching m capacity names es store waiting best) e s))
+
+-- a plan that was found costs no less than the least
+pub found_above : {N P : Type 0} {m : Meaning N P} (best : Option (Found P)) → IsLawful m → IsFound m best → IsAtLeast m.least (cost_so_far best)
+found_above None laws found = tt
+found_above (Some f) laws found = let least = laws.least_of_all f.plan found.0 in let cost = found.1 in omega arith
+
+-- a child that waits is put
+pub put_underway : {N P : Type 0} {m : Meaning N P} {nodes capacity : ℕ} {before now : Search N P}
+    (name : List ℕ) (waiting : List (List ℕ)) (child : Child N) → IsUnderway m nodes capacity before (name ∷ waiting) → IsPut before child now → m.stands child.node name → child.key ≡ m.tree.bound name → length before.store.items < nodes
+    → IsUnderway m nodes capacity now waiting
+put_underway {m} {before} {now} name waiting child u p st key room =
+    let longer : length now.store.items ≡ length before.store.items + 1 = ap length p.stored ∙ length-append before.store.items (Some child.node ∷ []) in
+    let more : length (held now.pass) ≡ length (held before.pass) + 1 = ap length p.added ∙ length-add p.entry (held before.pass) in
+    record {
+      lawful = u.lawful;
+      names = u.names ++ name ∷ [];
+      searching = same_search (sym p.added) (sym p.stored) (ap cost_so_far (sym p.best))
+          (node_put name waiting child.node p.entry u.searching st (p.key ∙ key) p.id (let has = p.room in let is = u.capacity_is in omega arith));
+      found = subst (λ (f : Option (Found _)). IsFound m f) (sym p.best) u.found;
+      calls = let calls = u.calls in let made = p.calls in omega arith;
+      number = p.number ∙ u.number;
+      within = omega arith;
+      capacity_is = p.capacity ∙ u.capacity_is;
+    }
+
+-- a child that waits is not put
+pub stop_not_put : {N P : Type 0} (m : Meaning N P) (nodes capacity : ℕ) (before : Search N P)
+    (name : List ℕ) (waiting : List (List ℕ)) (stop : Stop) → IsUnderway m nodes capacity before (name ∷ waiting) → IsNotPut before stop → length before.store.items < nodes
+    → IsStop m nodes capacity stop
+stop_not_put m nodes capacity before name waiting (NodeLimit asked) u why room = absurd why
+stop_not_put m nodes capacity before name waiting NoMemory u why room = tt
+stop_not_put m nodes capacity before name waiting (Full place) u why room =
+    let calls = u.calls in let few = u.searching.few in let budget = u.searching.counted.budget in let capacity_is = u.capacity_is in let full = why.0 in let at = why.1 in
+    record { below_limit = omega arith; below_needed = omega arith; from = omega arith; until = omega arith }
+
+-- the search as it stands once its least entry is removed and its node is not yet expanded
+taken_searching : {N P : Type 0} {m : Meaning N P} {nodes capacity : ℕ} {before now : Search N P} {child : Child N}
+    (u : IsUnderway m nodes capacity before []) → (t : IsTaken before child now) → IsSearching m capacity u.names (t.entry ∷ held now.pass) before.store.items [] (cost_so_far before.best)
+taken_searching u t = same_search t.first refl refl u.searching
+
+-- the node taken has the name of the entry's number
+taken_stands : {N P : Type 0} {m : Meaning N P} {nodes capacity : ℕ} {before now : Search N P} {child : Child N}
+    (u : IsUnderway m nodes capacity before []) → (t : IsTaken before child now) → m.stands child.node (name_at u.names t.entry.id)
+taken_stands {m} {before} {now} {child} u t = let f = All-head (StandsFor m u.names before.store.items) t.entry (held now.pass) (taken_searching u t).each in
+    let stored = f.stored in let there = t.node in let same : f.node ≡ child.node = cc in subst (λ n. m.stands n (name_at u.names t.entry.id)) same f.named
+
+-- its key is its bound
+taken_keyed : {N P : Type 0} {m : Meaning N P} {nodes capacity : ℕ} {before now : Search N P} {child : Child N}
+    (u : IsUnderway m nodes capacity before []) → (t : IsTaken before child now) → child.key ≡ m.tree.bound (name_at u.names t.entry.id)
+taken_keyed {m} {before} {now} {child} u t = let f = All-head (StandsFor m u.names before.store.items) t.entry (held now.pass) (taken_searching u t).each in t.key ∙ f.keyed
+
+-- the search after the node was dealt with
+taken_underway : {N P : Type 0} {m : Meaning N P} {nodes capacity : ℕ} {before now : Search N P} {child : Child N}
+    (waiting : List (List ℕ)) (best : Option (Found P)) (u : IsUnderway m nodes capacity before []) → (t : IsTaken before child now)
+    → IsFound m best → IsSearching m capacity u.names (held now.pass) (set before.store.items t.entry.id None) waiting (cost_so_far best)
+    → IsUnderway m nodes capacity (record now { best = best }) waiting
+taken_underway {before} {now} waiting best u t found s =
+    let same : length now.store.items ≡ length before.store.items = ap length t.emptied ∙ length-set before.store.items t.entry.id None in
+    let fewer : length (held before.pass) ≡ length (held now.pass) + 1 = let is = ap length t.first in omega arith in
+    record {
+      lawful = u.lawful;
+      names = u.names;
+      searching = same_search refl (sym t.emptied) refl s;
+      found = found;
+      calls = let calls = u.calls in let made = t.calls in omega arith;
+      number = t.number ∙ u.number;
+      within = let within = u.within in omega arith;
+      capacity_is = t.capacity ∙ u.capacity_is;
+    }
+
+unchanged : {N P : Type 0} {m : Meaning N P} {nodes capacity : ℕ} {before now : Search N P} {child : Child N} {waiting : List (List ℕ)}
+    → IsTaken before child now → IsUnderway m nodes capacity (record now { best = before.best }) waiting → IsUnderway m nodes capacity now waiting
+unchanged {N} {P} {m} {nodes} {capacity} {now} {waiting} t u = subst (λ (b : Option (Found P)). IsUnderway m nodes capacity (record now { best = b }) waiting) (sym t.best) u
+
+-- a test of the best cost after the node was taken is one of that before
+before_taken : {N P : Type 0} {before now : Search N P} {child : Child N} (v : ℕ) (b : _) → IsTaken before child now → is_better v (cost_so_far now.best) ≡ b → is_better v (cost_so_far before.best) ≡ b
+before_taken v b t is = subst (λ f. is_better v (cost_so_far f) ≡ b) t.best is
+
+-- the node was dropped
+pub dropped : {N P : Type 0} {m : Meaning N P} {nodes capacity : ℕ} {before now : Search N P} (child : Child N)
+    → IsUnderway m nodes capacity before [] → IsTaken before child now → is_better child.key (cost_so_far now.best) ≡ false
+    → IsUnderway m nodes capacity now []
+dropped {m} {nodes} {capacity} {before} {now} child u t worse =
+    let bad : is_better child.key (cost_so_far before.best) ≡ false = before_taken child.key false t worse in
+    let name : List ℕ = name_at u.names t.entry.id in
+    let keyed : child.key ≡ m.tree.bound name = taken_keyed u t in
+    let high : m.least ≤ child.key = not_better m.least child.key (cost_so_far before.best) (found_above before.best u.lawful u.found) bad in
+    let zero = unavoidable_high m.tree m.least name (omega arith) in
+    unchanged t (taken_underway [] before.best u t u.found
+    (node_closed t.entry (cost_so_far before.best) (taken_searching u t) (λ v better. better)
+    (λ v r better. let bound = u.lawful.bounded name v r in let good = better_below child.key v (cost_so_far before.best) (omega arith) better in cc)
+    (omega arith) (ahead_dropped m.tree capacity u.names (held now.pass) t.entry child.key (cost_so_far before.best) bad (taken_searching u t).counted.ahead)))
+
+-- the expansion of the node that was taken, by its name
+taken_expands : {N P : Type 0} {m : Meaning N P} {nodes capacity : ℕ} {before now : Search N P} {child : Child N} {step was : Step P N}
+    (u : IsUnderway m nodes capacity before []) → (t : IsTaken before child now) → ((name : List ℕ) → m.stands child.node name → IsExpanded m name was) → was ≡ step → IsExpanded m (name_at u.names t.entry.id) step
+taken_expands {m} u t expanded is = let name : List ℕ = name_at u.names t.entry.id in subst (IsExpanded m name) is (expanded name (taken_stands u t))
+
+-- the node was a leaf whose plan is no better than the best
+pub leaf_left : {N P : Type 0} {m : Meaning N P} {nodes capacity : ℕ} {before now : Search N P} (child : Child N) (plan : P) (cost : ℕ) (step : Step P N)
+    → IsUnderway m nodes capacity before [] → IsTaken before child now → ((name : List ℕ) → m.stands child.node name → IsExpanded m name step) → step ≡ Leaf plan → cost ≡ m.cost_of plan → is_better cost (cost_so_far now.best) ≡ false
+    → IsUnderway m nodes capacity now []
+leaf_left {m} {nodes} {capacity} {before} {now} child plan cost step u t expanded is same worse =
+    let name : List ℕ = name_at u.names t.entry.id in
+    let leaf = taken_expands {step = Leaf plan} u t expanded is in
+    let bad : is_better cost (cost_so_far before.best) ≡ false = before_taken cost false t worse in
+    unchanged t (taken_underway [] before.best u t u.found
+    (node_closed t.entry (cost_so_far before.best) (taken_searching u t) (λ v better. better)
+    (λ v r better. let low = leaf.2 v r in let good = better_below cost v (cost_so_far before.best) (omega arith) better in cc)
+    (unavoidable_leaf m.tree m.least name leaf.0) (ahead_dropped m.tree capacity u.names (held now.pass) t.entry cost (cost_so_far before.best) bad (taken_searching u t).counted.ahead)))
+
+-- the node was a leaf whose plan is better than the best
+pub leaf_found : {N P : Type 0} {m : Meaning N P} {nodes capacity : ℕ} {before now : Search N P} (child : Child N) (plan : P) (cost : ℕ) (step : Step P N)
+    → IsUnderway m nodes capacity before [] → IsTaken before child now → ((name : List ℕ) → m.stands child.node name → IsExpanded m name step) → step ≡ Leaf plan → cost ≡ m.cost_of plan → is_better cost (cost_so_far now.best) ≡ true
+    → IsUnderway m nodes capacity (record now { best = Some (record { plan = plan; cost = cost }) }) []
+leaf_found {m} {nodes} {capacity} {before} {now} child plan cost step u t expanded is same better =
+    let name : List ℕ = name_at u.names t.entry.id in
+    let leaf = taken_expands {step = Leaf plan} u t expanded is in
+    let good : is_better cost (cost_so_far before.best) ≡ true = before_taken cost true t better in
+    let s = taken_searching u t in
+    taken_underway [] (Some (record { plan = plan; cost = cost })) u t (leaf.1, same)
+    (node_closed t.entry (Some cost) s (λ v less. below_better cost v (cost_so_far before.best) good less)
+    (λ v r less. not_below_itself cost v (let low = leaf.2 v r in omega arith) less)
+    (unavoidable_leaf m.tree m.least name leaf.0) (ahead_found m.tree capacity u.names (held now.pass) t.entry (cost_so_far before.best) s.fits (open_leaf m.tree name leaf.0) s.counted.ahead))
+
+below_stand : {N : Type 0} (stands : N → List ℕ → Type 0) (name : List ℕ) (nodes : List N) (ks : List ℕ) → StandBelow stands name nodes ks → StandAt stands nodes (map (below name) ks)
+below_stand stands name [] [] all = tt
+below_stand stands name (n ∷ ns) (k ∷ ks) all = (all.0, below_stand stands name ns ks all.1)
+below_stand stands name [] (k ∷ ks) all = absurd all
+below_stand stands name (n ∷ ns) [] all = absurd all
+
+some_below : {N : Type 0} (stands : N → List ℕ → Type 0) (name : List ℕ) (nodes : List N) (ks : List ℕ) → StandBelow stands name nodes ks → 1 ≤ length nodes → 1 ≤ length ks
+some_below stands name [] ks all some = absurd (omega arith)
+some_below stands name (n ∷ ns) [] all some = absurd all
+some_below stands name (n ∷ ns) (k ∷ ks) all some = omega arith
+
+-- the node was a branch, whose children wait
+pub branched : {N P : Type 0} {m : Meaning N P} {nodes capacity : ℕ} {before now : Search N P} (child : Child N) (children : Vec N Global) (step : Step P N)
+    → IsUnderway m nodes capacity before [] → IsTaken before child now → IsRising (held before.pass) → is_better child.key (cost_so_far now.best) ≡ true
+    → ((name : List ℕ) → m.stands child.node name → IsExpanded m name step) → IsInRange m.cost_of step → step ≡ Branch children
+    → (waiting : List (List ℕ)) × StandAt m.stands children.items waiting × IsUnderway m nodes capacity now waiting
+branched {m} {before} {now} child children step u t rising better expanded range is = let name : List ℕ = name_at u.names t.entry.id in
+    let stand = taken_expands {step = Branch children} u t expanded is in
+    let some = subst (IsInRange m.cost_of) is range in
+    let good : is_better child.key (cost_so_far before.best) ≡ true = before_taken child.key true t better in
+    let low = key_at_most_least (cost_so_far before.best) t.entry u.lawful (taken_searching u t) (subst IsRising t.first rising) (subst (λ (n : ℕ). IsTrue (is_better n (cost_so_far before.best))) t.key good) in
+    let waiting : List (List ℕ) = map (below name) (m.tree.children name) in (
+      waiting,
+      below_stand m.stands name children.items (m.tree.children name) stand,
+      unchanged t (taken_underway waiting before.best u t u.found (node_branched t.entry u.lawful (taken_searching u t) low (some_below m.stands name children.items (m.tree.children name) stand some.0))),
+    )
+
+-- of those that wait, those that are not better are left out
+pub left_out : {N P : Type 0} {m : Meaning N P} {nodes capacity : ℕ} {search : Search N P} (waiting : List (List ℕ))
+    → IsUnderway m nodes capacity search waiting → IsUnderway m nodes capacity search (better_names m.tree (cost_so_far search.best) waiting)
+left_out {search} waiting u = record {
+  lawful = u.lawful;
+  names = u.names;
+  searching = better_kept waiting (cost_so_far search.best) u.lawful (found_above search.best u.lawful u.found) u.searching;
+  found = u.found;
+  calls = u.calls;
+  number = u.number;
+  within = u.within;
+  capacity_is = u.capacity_is;
+}
+
+-- each entry has its node in the store
+pub each_stored : {N P : Type 0} {m : Meaning N P} {nodes capacity : ℕ} {search : Search N P} {waiting : List (List ℕ)}
+    → IsUnderway m nodes capacity search waiting → All (IsStored search.store.items) (held search.pass)
+each_stored {m} {search} u = All-weaker (StandsFor m u.names search.store.items) (IsStored search.store.items) (λ e s. (s.node, s.stored)) (held search.pass) u.searching.each
+
+-- an empty queue
+pub over : {N P : Type 0} {m : Meaning N P} {nodes capacity : ℕ} {search : Search N P} (best : Option (Found P))
+    → IsUnderway m nodes capacity search [] → held search.pass ≡ [] → best ≡ search.best → IsOver m nodes capacity best
+over None u empty is = some_best u.lawful (same_search empty refl (ap cost_so_far (sym is)) u.searching)
+over {m} {search} (Some found) u empty is = let f : IsFound m (Some found) = subst (IsFound m) (sym is) u.found in
+    let s = same_search empty refl (ap cost_so_far (sym is)) u.searching in
+    let made = all_made (All-nil (λ (e : Entry). m.least ≤ m.tree.bound (name_at u.names e.id))) s.counted in
+    let within = u.within in (
+      record { feasible_is = f.0; cost_is = f.1; least = λ other ok. best_is_least found.cost other u.lawful s ok },
+      record { for_nodes = omega arith; for_open = s.counted.ahead },
+    )
+
+pub over_found : {N P : Type 0} (m : Meaning N P) (nodes capacity : ℕ) (best : Option (Found P)) → IsOver m nodes capacity best → IsSome best
+over_found m nodes capacity None is = absurd is
+over_found m nodes capacity (Some found) is = refl
+
+pub over_outcome : {N P : Type 0} (m : Meaning N P) (nodes capacity : ℕ) (best : Option (Found P)) → IsOver m nodes capacity best → IsOutcome m nodes capacity (best_outcome best)
+over_outcome m nodes capacity None is = absurd is
+over_outcome m nodes capacity (Some found) is = is
+
+-- the same search, by an equal capacity
+pub same_capacity : {N P : Type 0} {m : Meaning N P} {nodes capacity other : ℕ} {search : Search N P} {waiting : List (List ℕ)}
+    → capacity ≡ other → IsUnderway m nodes capacity search waiting → IsUnderway m nodes other search waiting
+same_capacity {m} {nodes} {search} {waiting} is u = subst (λ (c : ℕ). IsUnderway m nodes c search waiting) is u
+
+-- a limit that is asked to be passed is below the size of the tree
+pub stop_below_size : {N P : Type 0} (m : Meaning N P) (nodes capacity : ℕ) (stop : Stop) → IsStop m nodes capacity stop → (m.tree_size < 2 ^ 64 → needed m.tree m.least ≤ m.tree_size) → nodes ≤ 1048560
+    → IfNodeLimit {P = P} (outcome_of stop nodes) (λ asked limit. limit < m.tree_size)
+stop_below_size m nodes capacity (NodeLimit asked) is sized few = elim (cases_lt m.tree_size (2 ^ 64)) [
+  | inl small ↦ let enough = sized small in let over = is.over in let within = is.within in omega arith
+  | inr large ↦ omega arith
+]
+stop_below_size m nodes capacity (Full place) is sized few = tt
+stop_below_size m nodes capacity NoMemory is sized few = tt

@@ -1,0 +1,12 @@
+-- A cost beside the best so far, of which there may be none yet.
+use Rattle.std.specs.Prelude.{ℕ, ◌≤◌, Bool, true, nat_lt, Option, Some, None}
+
+-- whether this cost is below the best so far
+abbrev pub is_better : ℕ → Option ℕ → Bool
+is_better v None = true
+is_better v (Some best) = nat_lt v best
+
+-- the best so far, if there is one, is at least the least cost
+abbrev pub IsAtLeast : ℕ → Option ℕ → Type 0
+IsAtLeast least None = Unit {0}
+IsAtLeast least (Some best) = least ≤ best
