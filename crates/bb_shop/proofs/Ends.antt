@@ -1,19 +1,20 @@
 -- The makespan is the greatest end of an operation, and a bound of what a best schedule starts at.
 use Rattle.std.proofs.Common.{◌≡◌, ℕ, suc, ◌+◌, ◌<◌, ◌≤◌, List, [], ◌∷◌, ◌++◌, inl, inr, length, get_or, arith}
 use Rattle.std.proofs.lemmas.Bool.{cases_lt}
+use Rattle.inst_text.specs.Limits.{total_limit}
 use Rattle.inst_text.specs.declared.shop.Operation.{Operation}
 use Rattle.inst_text.specs.Shop.{JobShop, IsJobShop, AreStarts}
 use Rattle.bb_shop.specs.Plans.{step_at, row_at, end_at, IsOperation, AreShaped, IsFeasible, row_end, rows_end, makespan, IsCheapest}
 use Rattle.bb_shop.specs.Dispatching.{state_of}
 use Rattle.bb_shop.specs.Bounds.{root_bound}
 use Rattle.bb_shop.specs.Judging.{times_at}
-use Rattle.bb_shop.specs.Laws.Bounded.{bounded}
-use Rattle.bb_shop.specs.Laws.Ended.{end-le-row_end, row-le-rows_end}
-use Rattle.bb_shop.specs.Laws.Leaves.{leaf_is_feasible}
-use Rattle.bb_shop.specs.Laws.Least.{goes_on}
-use Rattle.bb_shop.specs.Laws.Reaching.{reached}
-use Rattle.bb_shop.specs.Laws.Ready.{rows_starts, whole_within}
-use Rattle.bb_shop.specs.Laws.States.{row-length}
+use Rattle.bb_shop.specs.TreeLawsHold.Bounded.{bounded}
+use Rattle.bb_shop.specs.TreeLawsHold.Ended.{end-le-row_end, row-le-rows_end}
+use Rattle.bb_shop.specs.TreeLawsHold.Leaves.{leaf_is_feasible}
+use Rattle.bb_shop.specs.TreeLawsHold.Least.{goes_on}
+use Rattle.bb_shop.specs.TreeLawsHold.Reaching.{reached}
+use Rattle.bb_shop.specs.TreeLawsHold.Ready.{rows_starts, whole_within}
+use Rattle.bb_shop.specs.TreeLawsHold.States.{row-length}
 use Rattle.bb_shop.proofs.Rows.{length-times_at}
 
 -- no operation ends after the makespan
@@ -77,7 +78,7 @@ pub root_bound_below : (s : JobShop) (starts : List (List ℕ)) → IsJobShop s 
 root_bound_below s starts shop feasible = bounded s [] (makespan s starts) shop (reached s starts shop feasible)
 
 -- a best schedule costs no more than that of some whole order, and so is within the sum of all times
-best_within : (s : JobShop) (starts : List (List ℕ)) → IsJobShop s → IsCheapest s starts → makespan s starts ≤ 67108863
+best_within : (s : JobShop) (starts : List (List ℕ)) → IsJobShop s → IsCheapest s starts → makespan s starts ≤ total_limit
 best_within s starts shop best =
     let whole = goes_on s [] shop tt in
     let name = [] ++ whole.0 in
@@ -87,7 +88,7 @@ best_within s starts shop best =
 pub best_starts_early : (s : JobShop) (starts : List (List ℕ)) → IsJobShop s → IsCheapest s starts → AreStarts starts
 best_starts_early s starts shop best =
     let shaped = best.feasible.shaped in
-    rows_starts 67108863 starts (λ j k row step.
+    rows_starts total_limit starts (λ j k row step.
     let job : j < length s.rows = omega (arith, row, shaped.rows) in
     let within : k < s.machines = omega (arith, step, length-times_at s starts j shaped job) in
     omega (arith, end_within_makespan s starts j k shop shaped (job, within), best_within s starts shop best))

@@ -1,10 +1,8 @@
 pub mod WorkedShops
 pub mod Tabled
-pub mod Lading
+pub mod MachineLoads
 pub mod Kept
 pub mod Rows
-pub mod Remaining
 pub mod Planned
-pub mod Standing
 pub mod OneVerdict
 pub mod Ends

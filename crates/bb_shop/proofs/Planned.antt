@@ -4,13 +4,14 @@ use Rattle.std.specs.Prelude.{max}
 use Rattle.std.specs.Global.{Vec}
 use Rattle.std.proofs.lemmas.Bool.{cases_lt}
 use Rattle.std.proofs.lemmas.List.{take_more, map-set}
+use Rattle.inst_text.specs.Limits.{total_limit}
 use Rattle.bb_problem.specs.Tree.{below}
 use Rattle.inst_text.specs.declared.shop.Operation.{Operation}
 use Rattle.inst_text.specs.Shop.{JobShop, IsJobShop, AreStarts}
 use Rattle.bb_shop.specs.Dispatching.{State, opened, number_in, next_of, next_end, step_of, dispatched, state_of, IsLeft, IsOrder}
 use Rattle.bb_shop.specs.Working.{dispatched_by, IsReached, IsMade}
-use Rattle.bb_shop.specs.Laws.States.{IsState, IsState-of, state_of-nil, state_of-below, IsOrder-below, AreLeft-first, AreLeft-rest}
-use Rattle.bb_shop.specs.Laws.Ready.{ready_within}
+use Rattle.bb_shop.specs.TreeLawsHold.States.{IsState, IsState-of, state_of-nil, state_of-below, IsOrder-below, AreLeft-first, AreLeft-rest}
+use Rattle.bb_shop.specs.TreeLawsHold.Ready.{ready_within}
 
 pub same_state : (starts : List (List ℕ)) (jobs machines : List ℕ) (starts' : List (List ℕ)) (jobs' machines' : List ℕ) → starts ≡ starts' → jobs ≡ jobs' → machines ≡ machines'
     → (let a : State = record { starts = starts; jobs = jobs; machines = machines } in let b : State = record { starts = starts'; jobs = jobs'; machines = machines' } in a ≡ b)
@@ -36,7 +37,7 @@ dispatched-is s st j = refl
 pub reached_state : (s : JobShop) (st : State) → IsReached s st → IsState s st
 reached_state s st is = subst (IsState s) (sym is.made) (IsState-of s is.name is.ordered)
 
-pub reached_end : (s : JobShop) (st : State) (j : ℕ) → IsJobShop s → IsReached s st → IsLeft s st j → next_end s st j ≤ 67108863
+pub reached_end : (s : JobShop) (st : State) (j : ℕ) → IsJobShop s → IsReached s st → IsLeft s st j → next_end s st j ≤ total_limit
 reached_end s st j shop is left =
     let here : IsLeft s (state_of s is.name) j = subst (λ x. IsLeft s x j) is.made left in
     omega (arith, ap (λ x. next_end s x j) is.made, (ready_within s is.name shop is.ordered).next j here)

@@ -3,11 +3,12 @@ use Rattle.std.proofs.Common.{◌≡◌, ℕ, zero, suc, ◌+◌, ◌<◌, ◌�
 use Rattle.std.specs.List.{AllByRecursion}
 use Rattle.std.proofs.lemmas.List.{drop_more, get_or-map, length-map}
 use Rattle.std.proofs.lemmas.List.Elements.{All-from_recursion}
+use Rattle.inst_text.specs.Limits.{total_limit}
 use Rattle.inst_text.specs.declared.shop.Operation.{Operation}
 use Rattle.inst_text.specs.Shop.{JobShop, IsJobShop, AreStarts, row_time, rows_time}
 use Rattle.bb_shop.specs.Plans.{step_at, row_at, row_end, rows_end, AreShaped}
 use Rattle.bb_shop.specs.Judging.{times_at, AreTimed}
-use Rattle.bb_shop.specs.Laws.States.{row-length}
+use Rattle.bb_shop.specs.TreeLawsHold.States.{row-length}
 
 -- what is read of a list of vectors is the row there
 pub read_row : {V A : Type 0} (vs : List V) (items : V → List A) (rows : List (List A)) (i : ℕ) (v : V) (r : List A) → map items vs ≡ rows → i < length vs → v ≡ get_or vs i v → r ≡ items v → r ≡ get_or rows i []
@@ -30,13 +31,13 @@ row_time-le (r ∷ rs) zero = omega arith
 row_time-le (r ∷ rs) (suc j) = omega (arith, row_time-le rs j)
 
 -- a start time is within its limit
-pub start-le : (times : List ℕ) (k : ℕ) → AllByRecursion (λ (t : ℕ). t ≤ 67108863) times → get_or times k 0 ≤ 67108863
+pub start-le : (times : List ℕ) (k : ℕ) → AllByRecursion (λ (t : ℕ). t ≤ total_limit) times → get_or times k 0 ≤ total_limit
 start-le [] zero early = omega arith
 start-le [] (suc k) early = omega arith
 start-le (t ∷ ts) zero early = early.0
 start-le (t ∷ ts) (suc k) early = start-le ts k early.1
 
-pub starts-early : (starts : List (List ℕ)) (j : ℕ) → AreStarts starts → AllByRecursion (λ (t : ℕ). t ≤ 67108863) (times_at starts j)
+pub starts-early : (starts : List (List ℕ)) (j : ℕ) → AreStarts starts → AllByRecursion (λ (t : ℕ). t ≤ total_limit) (times_at starts j)
 starts-early [] zero early = tt
 starts-early [] (suc j) early = tt
 starts-early (r ∷ rs) zero early = early.0

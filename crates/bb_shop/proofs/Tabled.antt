@@ -7,10 +7,10 @@ use Rattle.std.proofs.lemmas.List.Elements.{All-from_recursion}
 use Rattle.std.proofs.Math.Nat.{mul-le-mul_left}
 use Rattle.inst_text.specs.declared.shop.Operation.{Operation}
 use Rattle.inst_text.specs.Shop.{JobShop, IsJobShop, row_time, rows_time}
-use Rattle.bb_shop.specs.declared.prepared.Prepared.{Prepared}
+use Rattle.bb_shop.specs.declared.prepared_operation.PreparedOperation.{PreparedOperation}
 use Rattle.bb_shop.specs.Plans.{row_at, operation_at}
 use Rattle.bb_shop.specs.Tables.{prepared_row, prepared_rows, operations_in, HaveTails, IsTable}
-use Rattle.bb_shop.specs.Laws.States.{row-length}
+use Rattle.bb_shop.specs.TreeLawsHold.States.{row-length}
 
 pub length-prepared_row : (row : List Operation) → length (prepared_row row) ≡ length row
 length-prepared_row [] = refl
@@ -29,12 +29,12 @@ pub HaveTails-prepared_row : (row : List Operation) → HaveTails (prepared_row 
 HaveTails-prepared_row [] = tt
 HaveTails-prepared_row (o ∷ os) = (ap row_time (sym (operations_in-prepared_row os)), HaveTails-prepared_row os)
 
-pub all-prepared_row : (n : ℕ) (row : List Operation) → AllByRecursion (λ (o : Operation). o.machine < n) row → AllByRecursion (λ (p : Prepared). p.operation.machine < n) (prepared_row row)
+pub all-prepared_row : (n : ℕ) (row : List Operation) → AllByRecursion (λ (o : Operation). o.machine < n) row → AllByRecursion (λ (p : PreparedOperation). p.operation.machine < n) (prepared_row row)
 all-prepared_row n [] named = tt
 all-prepared_row n (o ∷ os) named = (named.0, all-prepared_row n os named.1)
 
 -- one row after another
-pub prepared_rows-more : (table : List Prepared) (row : List Operation) (rows : List (List Operation)) → table ++ prepared_rows (row ∷ rows) ≡ (table ++ prepared_row row) ++ prepared_rows rows
+pub prepared_rows-more : (table : List PreparedOperation) (row : List Operation) (rows : List (List Operation)) → table ++ prepared_rows (row ∷ rows) ≡ (table ++ prepared_row row) ++ prepared_rows rows
 prepared_rows-more table row rows = sym (append_assoc table (prepared_row row) (prepared_rows rows))
 
 pub length-prepared_rows : (m : ℕ) (rows : List (List Operation)) → AllByRecursion (λ (row : List Operation). length row ≡ m) rows → length (prepared_rows rows) ≡ length rows * m
@@ -44,7 +44,7 @@ length-prepared_rows m (row ∷ rows) steps =
 
 -- from the first operation of a job on
 from_job : (m n : ℕ) (rows : List (List Operation)) (j : ℕ) → AllByRecursion (λ (row : List Operation). length row ≡ m) rows → j < length rows → n ≡ j * m
-    → (rest : List Prepared) × (drop n (prepared_rows rows) ≡ prepared_row (row_at rows j) ++ rest)
+    → (rest : List PreparedOperation) × (drop n (prepared_rows rows) ≡ prepared_row (row_at rows j) ++ rest)
 from_job m n [] j steps lt is = absurd (omega arith)
 from_job m n (row ∷ rows) zero steps lt is =
     let none : n ≡ 0 = omega (arith, is) in
@@ -60,7 +60,7 @@ from_job m n (row ∷ rows) (suc j) steps lt is =
 
 -- from a job's operation on
 from_operation : (m n k : ℕ) (rows : List (List Operation)) (j : ℕ) → AllByRecursion (λ (row : List Operation). length row ≡ m) rows → j < length rows → n ≡ j * m → k ≤ length (row_at rows j)
-    → (rest : List Prepared) × (drop (n + k) (prepared_rows rows) ≡ prepared_row (drop k (row_at rows j)) ++ rest)
+    → (rest : List PreparedOperation) × (drop (n + k) (prepared_rows rows) ≡ prepared_row (drop k (row_at rows j)) ++ rest)
 from_operation m n k rows j steps lt is le =
     let job = from_job m n rows j steps lt is in (
       job.0,
@@ -70,7 +70,7 @@ from_operation m n k rows j steps lt is le =
     )
 
 -- the part of the table that is a job's operations from a step on
-pub part_is : (s : JobShop) (table : List Prepared) (j n step a b : ℕ) → IsTable s table → j < length s.rows → n ≡ j * s.machines → a ≡ n + min step s.machines → b ≡ n + s.machines
+pub part_is : (s : JobShop) (table : List PreparedOperation) (j n step a b : ℕ) → IsTable s table → j < length s.rows → n ≡ j * s.machines → a ≡ n + min step s.machines → b ≡ n + s.machines
     → take (b - a) (drop a table) ≡ prepared_row (drop step (row_at s.rows j))
 part_is s table j n step a b is lt first from to =
     let row = row_at s.rows j in
@@ -82,23 +82,23 @@ part_is s table j n step a b is lt first from to =
     ∙ ap (take (b - a)) (part.1) ∙ take_at (prepared_row (drop k row)) (part.0) (b - a) size
     ∙ ap (λ i. prepared_row (drop (min step i) row)) (sym long) ∙ ap prepared_row (drop_min step row)
 
-pub length-table : (s : JobShop) (table : List Prepared) → IsTable s table → length table ≡ length s.rows * s.machines
+pub length-table : (s : JobShop) (table : List PreparedOperation) → IsTable s table → length table ≡ length s.rows * s.machines
 length-table s table is = ap length is.operations ∙ length-prepared_rows s.machines s.rows is.shop.steps
 
 -- the operation at one place of a row
-operation_of-row : (row : List Operation) (k : ℕ) (d : Prepared) (e : Operation) → k < length row → (get_or (prepared_row row) k d).operation ≡ get_or row k e
+operation_of-row : (row : List Operation) (k : ℕ) (d : PreparedOperation) (e : Operation) → k < length row → (get_or (prepared_row row) k d).operation ≡ get_or row k e
 operation_of-row [] k d e lt = absurd (omega arith)
 operation_of-row (o ∷ os) zero d e lt = refl
 operation_of-row (o ∷ os) (suc k) d e lt = operation_of-row os k d e (omega arith)
 
 -- the operation at one place of the table
-pub operation_is : (s : JobShop) (table : List Prepared) (j n k : ℕ) (d : Prepared) → IsTable s table → j < length s.rows → k < s.machines → n ≡ j * s.machines
+pub operation_is : (s : JobShop) (table : List PreparedOperation) (j n k : ℕ) (d : PreparedOperation) → IsTable s table → j < length s.rows → k < s.machines → n ≡ j * s.machines
     → (get_or table (n + k) d).operation ≡ operation_at s j k
 operation_is s table j n k d is lt step first =
     let row = row_at s.rows j in
     let long : length row ≡ s.machines = row-length s j is.shop lt in
     let job = from_job s.machines n s.rows j is.shop.steps lt first in
-    ap (λ (p : Prepared). p.operation)
+    ap (λ (p : PreparedOperation). p.operation)
     (ap (λ ps. get_or ps (n + k) d) is.operations ∙ sym (get_or-drop n (prepared_rows s.rows) k d) ∙ ap (λ ps. get_or ps k d) (job.1)
     ∙ get_or_append_left (prepared_row row) (job.0) d k (omega (arith, length-prepared_row row, long)))
     ∙ operation_of-row row k d (record { machine = 0; time = 0 }) (omega (arith, long))

@@ -2,7 +2,7 @@
 use Rattle.std.proofs.Common.{◌≡◌, [], ◌∷◌, refl}
 use Rattle.bb_shop.specs.Plans.{makespan}
 use Rattle.bb_shop.specs.Dispatching.{state_of, state_from, dispatched}
-use Rattle.bb_shop.specs.Bounds.{finish, joined, job_load, bound_at, root_bound, finishes, figures, greatest}
+use Rattle.bb_shop.specs.Bounds.{finish, joined, job_load, bound_at, root_bound, finishes, machine_bounds, greatest}
 use Rattle.bb_shop.specs.Branching.{children_of, jobs_left}
 use Rattle.bb_shop.specs.Worked.{ft06, three_by_three}
 
@@ -14,9 +14,9 @@ pub ft06_longest : greatest (finishes ft06 (state_of ft06 [])) ≡ 47
 unfolding state_from dispatched finish
 ft06_longest = refl
 
-pub ft06_figures : figures ft06 (state_of ft06 []) ≡ 42 ∷ 33 ∷ 26 ∷ 25 ∷ 52 ∷ 49 ∷ []
+pub ft06_machine_bounds : machine_bounds ft06 (state_of ft06 []) ≡ 42 ∷ 33 ∷ 26 ∷ 25 ∷ 52 ∷ 49 ∷ []
 unfolding state_from dispatched finish joined job_load
-ft06_figures = refl
+ft06_machine_bounds = refl
 
 pub three_children : children_of three_by_three (1 ∷ 1 ∷ 1 ∷ 0 ∷ []) ≡ 0 ∷ 2 ∷ []
 unfolding state_from dispatched children_of jobs_left

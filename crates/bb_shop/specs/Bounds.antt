@@ -42,10 +42,10 @@ job_load machines m ready [] = Idle
 job_load machines m ready (o ∷ os) =
     joined (load_of m o (head_of machines ready o) (row_time os)) (job_load machines m (head_of machines ready o + o.time) os)
 
--- the figure of a machine: the least head, the sum of the times and the least tail
-abbrev pub figure : Load → ℕ
-figure Idle = 0
-figure (Busy head time tail) = head + time + tail
+-- the bound of a machine: the least head, the sum of the times and the least tail
+abbrev pub machine_bound : Load → ℕ
+machine_bound Idle = 0
+machine_bound (Busy head time tail) = head + time + tail
 
 -- the operations of job j that are left
 abbrev pub rest_of : JobShop → State → ℕ → List Operation
@@ -69,13 +69,13 @@ all_joined (l ∷ ls) = joined l (all_joined ls)
 abbrev pub load : JobShop → State → ℕ → Load
 load s st m = all_joined (each_from (λ j. job_load st.machines m (number_in st.jobs j) (rest_of s st j)) 0 (length s.rows))
 
--- the figures of the machines that have operations left; of the others, 0
-abbrev pub figures : JobShop → State → List ℕ
-figures s st = each_from (λ m. figure (load s st m)) 0 s.machines
+-- the bounds of the machines that have operations left; of the others, 0
+abbrev pub machine_bounds : JobShop → State → List ℕ
+machine_bounds s st = each_from (λ m. machine_bound (load s st m)) 0 s.machines
 
--- The greatest of all jobs' finishes, all machines' ready times and all machines' figures.
+-- The greatest of all jobs' finishes, all machines' ready times and all machines' bounds.
 unfoldable pub bound_at : JobShop → State → ℕ
-bound_at s st = max (greatest (finishes s st)) (max (greatest st.machines) (greatest (figures s st)))
+bound_at s st = max (greatest (finishes s st)) (max (greatest st.machines) (greatest (machine_bounds s st)))
 
 -- the bound of a node
 abbrev pub bound_of : JobShop → List ℕ → ℕ

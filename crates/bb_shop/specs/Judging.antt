@@ -2,11 +2,12 @@
 -- overlap.
 use Rattle.std.specs.Prelude.{ℕ, ◌≡◌, ◌+◌, ◌-◌, ◌≤◌, ◌<◌, List, [], length, slice_index, slice_index_or, Option, Some, None}
 use Rattle.std.specs.List.{AllByRecursion}
+use Rattle.inst_text.specs.Limits.{total_limit}
 use Rattle.inst_text.specs.declared.shop.Operation.{Operation}
 use Rattle.inst_text.specs.Shop.{JobShop, row_time}
 use Rattle.bb_shop.specs.declared.booking.Booking.{Booking}
-use Rattle.bb_shop.specs.declared.place.Place.{Place}
-use Rattle.bb_shop.specs.declared.place.Pair.{Pair}
+use Rattle.bb_shop.specs.declared.operation_id.OperationId.{OperationId}
+use Rattle.bb_shop.specs.declared.operation_id.Pair.{Pair}
 use Rattle.bb_shop.specs.Plans.{step_at, IsOperation, IsBefore}
 use Rattle.bb_shop.specs.Verdicts.{IsEarly, Overlap, IsPairBefore}
 
@@ -16,9 +17,9 @@ Finds P None = (k : ℕ) → P k → ⊥
 Finds P (Some k) = P k × ((h : ℕ) → h < k → P h → ⊥)
 
 -- the same of a search by job and step
-abbrev pub FindsPlace : (ℕ → ℕ → Type 0) → Option Place → Type 0
-FindsPlace P None = (j k : ℕ) → P j k → ⊥
-FindsPlace P (Some p) = P p.job p.step × ((i h : ℕ) → IsBefore i h p.job p.step → P i h → ⊥)
+abbrev pub FindsOperation : (ℕ → ℕ → Type 0) → Option OperationId → Type 0
+FindsOperation P None = (j k : ℕ) → P j k → ⊥
+FindsOperation P (Some p) = P p.job p.step × ((i h : ℕ) → IsBefore i h p.job p.step → P i h → ⊥)
 
 -- the same of a search for two operations, by job and step of the one and then of the other
 abbrev pub FindsPair : (ℕ → ℕ → ℕ → ℕ → Type 0) → Option Pair → Type 0
@@ -34,8 +35,8 @@ times_at starts j = slice_index_or starts j []
 -- a row of operations with a start time for each, within the limits
 pub record AreTimed (row : List Operation) (times : List ℕ) : Type 0 where
   pub count : length times ≡ length row
-  pub limited : row_time row ≤ 67108863
-  pub early : AllByRecursion (λ (t : ℕ). t ≤ 67108863) times
+  pub limited : row_time row ≤ total_limit
+  pub early : AllByRecursion (λ (t : ℕ). t ≤ total_limit) times
 
 -- the operation of the row at step k starts before the end of the one before it
 pub record IsEarlyIn (row : List Operation) (times : List ℕ) (k : ℕ) : Type 0 where

@@ -3,7 +3,7 @@ pub mod Dispatching
 pub mod Bounds
 pub mod Branching
 pub mod Verdicts
-pub mod Laws
+pub mod TreeLawsHold
 pub mod Worked
 pub mod Tables
 pub mod Loading

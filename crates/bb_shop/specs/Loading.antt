@@ -8,14 +8,14 @@ abbrev pub unloaded : MachineLoad
 unloaded = record { head = 4294967295; time = 0; tail = 4294967295 }
 
 -- with what more operations ask of the machine
-abbrev pub laden : MachineLoad → Load → MachineLoad
-laden l Idle = l
-laden l (Busy head time tail) = record { head = min l.head head; time = l.time + time; tail = min l.tail tail }
+abbrev pub with_load : MachineLoad → Load → MachineLoad
+with_load l Idle = l
+with_load l (Busy head time tail) = record { head = min l.head head; time = l.time + time; tail = min l.tail tail }
 
 -- the load of machine m
 abbrev pub load_in : List MachineLoad → ℕ → MachineLoad
 load_in loads m = slice_index_or loads m unloaded
 
--- the figure of a load: its least head, its time and its least tail, and 0 of no operations
-abbrev pub figure_of : MachineLoad → ℕ
-figure_of l = if nat_eq l.head 4294967295 then 0 else l.head + l.time + l.tail
+-- the bound of a load: its least head, its time and its least tail, and 0 of no operations
+abbrev pub machine_bound_of : MachineLoad → ℕ
+machine_bound_of l = if nat_eq l.head 4294967295 then 0 else l.head + l.time + l.tail

@@ -1,23 +1,24 @@
 -- What the program makes of a node: from each job's next step, and from the ready times of jobs and machines.
-use Rattle.std.specs.Prelude.{ℕ, ◌≡◌, ◌+◌, ◌≤◌, ◌<◌, List, [], ◌∷◌, ◌++◌, length, take, drop, max, min, set, replicate, map}
+use Rattle.std.specs.Prelude.{ℕ, ◌≡◌, ◌+◌, ◌-◌, ◌≤◌, ◌<◌, List, [], ◌∷◌, ◌++◌, length, take, drop, max, min, set, replicate, map}
 use Rattle.inst_text.specs.declared.shop.Operation.{Operation}
 use Rattle.inst_text.specs.Shop.{JobShop}
+use Rattle.inst_text.specs.Limits.{total_limit}
 use Rattle.bb_shop.specs.Plans.{row_at, operation_at}
 use Rattle.bb_shop.specs.Dispatching.{State, number_in, starts_of, state_of, IsOrder}
-use Rattle.bb_shop.specs.Bounds.{Load, finish, job_load, figure, greatest, all_joined, each_from}
+use Rattle.bb_shop.specs.Bounds.{Load, finish, job_load, machine_bound, greatest, all_joined, each_from}
 use Rattle.bb_shop.specs.Branching.{Node, jobs_left}
 
 -- no number is above this one
 pub record AreUpTo (limit : ℕ) (xs : List ℕ) : Type 0 where
   pub each : (k : ℕ) → number_in xs k ≤ limit
 
--- a next step and a ready time for each job, and a ready time for each machine, none above 67,108,863
+-- a next step and a ready time for each job, and a ready time for each machine, none above the limit of all times
 pub record FitTo (s : JobShop) (steps jobs machines : List ℕ) : Type 0 where
   pub each_step : length steps ≡ length s.rows
   pub each_job : length jobs ≡ length s.rows
   pub each_machine : length machines ≡ s.machines
-  pub jobs_ready : AreUpTo 67108863 jobs
-  pub machines_ready : AreUpTo 67108863 machines
+  pub jobs_ready : AreUpTo total_limit jobs
+  pub machines_ready : AreUpTo total_limit machines
 
 -- the operations of job j that are left
 abbrev pub left_of : JobShop → List ℕ → ℕ → List Operation
@@ -35,11 +36,11 @@ load_at s steps jobs machines m j = job_load machines m (number_in jobs j) (left
 abbrev pub whole_load : JobShop → List ℕ → List ℕ → List ℕ → ℕ → Load
 whole_load s steps jobs machines m = all_joined (each_from (load_at s steps jobs machines m) 0 (length s.rows))
 
--- the bound: the greatest of the jobs' finishes, the machines' ready times and the machines' figures
+-- the bound: the greatest of the jobs' finishes, the machines' ready times and the machines' bounds
 unfoldable pub bound_by : JobShop → List ℕ → List ℕ → List ℕ → ℕ
 bound_by s steps jobs machines =
     max (greatest (each_from (finish_at s steps jobs machines) 0 (length s.rows)))
-    (max (greatest machines) (greatest (each_from (λ m. figure (whole_load s steps jobs machines m)) 0 s.machines)))
+    (max (greatest machines) (greatest (each_from (λ m. machine_bound (whole_load s steps jobs machines m)) 0 s.machines)))
 
 -- rows of so many start times, one for each job
 abbrev pub rows_of : List ℕ → List (List ℕ)
@@ -53,9 +54,9 @@ left_in machines steps = jobs_left machines 0 (rows_of steps)
 abbrev pub coming : JobShop → Node → ℕ → Operation
 coming s node j = operation_at s j (number_in node.steps j)
 
--- when it ends, or 67,108,863 where that is less
+-- when it ends, or the limit of all times where that is less
 abbrev pub ending : Node → Operation → ℕ → ℕ
-ending node o j = min (max (number_in node.jobs j) (number_in node.machines o.machine) + o.time) 67108863
+ending node o j = min (max (number_in node.jobs j) (number_in node.machines o.machine) + o.time) total_limit
 
 -- the child that dispatches this operation of job j
 abbrev pub child_by : Node → Operation → ℕ → Node
@@ -70,17 +71,20 @@ child_by node o j = record {
 abbrev pub child_of : JobShop → Node → ℕ → Node
 child_of s node j = child_by node (coming s node j) j
 
--- the last job that has an operation left
-pub record IsLastLeft (machines : ℕ) (steps : List ℕ) (last : ℕ) : Type 0 where
-  pub inside : last < length steps
-  pub left : number_in steps last < machines
-  pub before : left_in machines steps ≡ left_in machines (take last steps) ++ last ∷ []
+-- job j has an operation left at a node
+pub record IsLeftAt (s : JobShop) (node : Node) (j : ℕ) : Type 0 where
+  pub inside : j < length node.steps
+  pub left : number_in node.steps j < s.machines
 
--- how a node is kept: the jobs' ready times before the machines', and the jobs' next steps before the order
-pub record IsKept (count : ℕ) (ready route : List ℕ) : Type 0 where
-  pub ready_jobs : count ≤ length ready
-  pub route_jobs : count ≤ length route
-  pub within : AreUpTo 67108863 ready
+-- the numbers of a list from one place up to another
+abbrev pub part : ℕ → ℕ → List ℕ → List ℕ
+part from to xs = take (to - from) (drop from xs)
+
+-- how a node of so many jobs and machines is kept: the jobs' ready times, the machines' ready times, the jobs' next
+-- steps, and the order
+pub record IsKept (jobs machines : ℕ) (numbers : List ℕ) : Type 0 where
+  pub long : jobs + machines + jobs ≤ length numbers
+  pub within : (k : ℕ) → k < jobs + machines → number_in numbers k ≤ total_limit
 
 -- the schedule with this operation of job j dispatched
 abbrev pub dispatched_by : State → Operation → ℕ → State

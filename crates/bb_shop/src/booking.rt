@@ -1,4 +1,6 @@
+//! When an operation with a start time needs its machine.
 ghost use Rattle.std.specs.Prelude.{◌≡◌, ◌≤◌, ◌↔◌, IsTrue};
+ghost use Rattle.inst_text.specs.Limits.{total_limit};
 ghost use Rattle.bb_shop.specs.Judging.{booked, Collide};
 
 use inst_text::Operation;
@@ -14,8 +16,8 @@ pub struct Booking {
 impl Booking {
     /// What the operation needs if it starts at this time. Constant time.
     pub fn new(operation: Operation, start: u32) -> Booking
-        requires time { operation.time ≤ 67108863 }
-        requires start { start ≤ 67108863 }
+        requires time { operation.time ≤ total_limit }
+        requires start { start ≤ total_limit }
         ensures { result ≡ booked operation start }
     {
         Booking {

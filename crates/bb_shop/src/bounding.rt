@@ -1,29 +1,35 @@
+//! The bound of a node: what each job and each machine still has to do.
 ghost use Rattle.std.specs.Prelude.{ℕ, ◌≡◌, ◌+◌, ◌≤◌, ◌<◌, length, slice_index};
 ghost use Rattle.std.specs.List.{AllByRecursion};
+ghost use Rattle.inst_text.specs.Limits.{total_limit};
 ghost use Rattle.inst_text.specs.Shop.{row_time};
 ghost use Rattle.bb_shop.specs.Bounds.{finish, job_load, greatest, each_from};
-ghost use Rattle.bb_shop.specs.Loading.{unloaded, laden, load_in};
+ghost use Rattle.bb_shop.specs.Loading.{unloaded, with_load, load_in};
 ghost use Rattle.bb_shop.specs.Tables.{operations_in, HaveTails};
 ghost use Rattle.bb_shop.specs.Working.{AreUpTo, FitTo, finish_at, whole_load, bound_by};
 
-use crate::machine_load::{MachineLoad, UNLOADED, greatest_figure};
-use crate::prepared::Prepared;
+use crate::machine_load::{MachineLoad, UNLOADED, greatest_machine_bound};
+use crate::prepared_operation::PreparedOperation;
 use crate::shop::Shop;
+use inst_text::MACHINE_LIMIT;
+
+// How many machines a small table of loads has room for.
+const FEW: usize = 16;
 
 /// When a job that is ready at this time has finished these operations at the earliest. It adds to the
 /// machines' loads what the operations ask of them. One pass.
-fn run_job(ops: &[Prepared], machines: &[u32], from: u32, loads: &mut [MachineLoad]) -> u32
+fn run_job(ops: &[PreparedOperation], machines: &[u32], from: u32, loads: &mut [MachineLoad]) -> u32
     requires tails { HaveTails ops.now }
     requires named { AllByRecursion (λ p. p.operation.machine < length machines.now) ops.now }
     requires places { length machines.now ≤ length loads.old }
-    requires within { AreUpTo 67108863 machines.now }
-    requires start { from ≤ 67108863 }
-    requires time { row_time (operations_in ops.now) ≤ 67108863 }
+    requires within { AreUpTo total_limit machines.now }
+    requires start { from ≤ total_limit }
+    requires time { row_time (operations_in ops.now) ≤ total_limit }
     requires times { (m : ℕ) → m < length machines.now →
-        (laden (load_in loads.old m) (job_load machines.now m from (operations_in ops.now))).time ≤ 67108863 }
+        (with_load (load_in loads.old m) (job_load machines.now m from (operations_in ops.now))).time ≤ total_limit }
     ensures finish { result ≡ finish machines.now from (operations_in ops.now) }
     ensures loads { (m : ℕ) → m < length machines.now →
-        load_in loads.new m ≡ laden (load_in loads.old m) (job_load machines.now m from (operations_in ops.now)) }
+        load_in loads.new m ≡ with_load (load_in loads.old m) (job_load machines.now m from (operations_in ops.now)) }
 {
     let mut ready = from;
     for prepared in ops {
@@ -49,22 +55,27 @@ fn greatest_of(numbers: &[u32]) -> u32
 
 impl Shop {
     /// The bound of a node with these next steps and ready times. One pass over the operations that are left.
-    pub(crate) fn bound_by(&self, steps: &[u8], jobs: &[u32], machines: &[u32]) -> u32
+    pub(crate) fn bound_by(&self, steps: &[u32], jobs: &[u32], machines: &[u32]) -> u32
         requires { FitTo self.now steps.now jobs.now machines.now }
         ensures { result ≡ bound_by self.now steps.now jobs.now machines.now }
     {
         // Most shops have few machines, and a small table of loads is set up faster.
-        if self.machine_count() <= 16 {
-            self.bound_over(steps, jobs, machines, &mut [UNLOADED; 16])
+        if self.machine_count() <= FEW {
+            self.bound_over(steps, jobs, machines, &mut [UNLOADED; FEW])
         } else {
-            self.bound_over(steps, jobs, machines, &mut [UNLOADED; 100])
+            self.bound_over(
+                steps,
+                jobs,
+                machines,
+                &mut [UNLOADED; MACHINE_LIMIT as usize],
+            )
         }
     }
 
     /// The same, with a table of loads of no operations, for as many machines at least as there are.
     fn bound_over(
         &self,
-        steps: &[u8],
+        steps: &[u32],
         jobs: &[u32],
         machines: &[u32],
         loads: &mut [MachineLoad],
@@ -76,15 +87,15 @@ impl Shop {
     {
         let count = self.machine_count();
         let finish = self.last_finish(steps, jobs, machines, loads);
-        let figure = greatest_figure(&loads[..count]);
-        finish.max(greatest_of(machines).max(figure))
+        let machine_bound = greatest_machine_bound(&loads[..count]);
+        finish.max(greatest_of(machines).max(machine_bound))
     }
 
     /// When the last job finishes at the earliest. It adds to the machines' loads, which are those of no
     /// operations, what the operations that are left ask of them. One pass over these operations.
     fn last_finish(
         &self,
-        steps: &[u8],
+        steps: &[u32],
         jobs: &[u32],
         machines: &[u32],
         loads: &mut [MachineLoad],
@@ -94,7 +105,7 @@ impl Shop {
         requires none { (m : ℕ) → load_in loads.old m ≡ unloaded }
         ensures finish { result ≡ greatest (each_from (finish_at self.now steps.now jobs.now machines.now) 0 (length self.now.rows)) }
         ensures loads { (m : ℕ) → m < length machines.now →
-            load_in loads.new m ≡ laden unloaded (whole_load self.now steps.now jobs.now machines.now m) }
+            load_in loads.new m ≡ with_load unloaded (whole_load self.now steps.now jobs.now machines.now m) }
     {
         let mut greatest = 0;
         for job in 0..self.job_count() {

@@ -1,28 +1,43 @@
-ghost use Rattle.std.specs.Prelude.{◌≡◌, ◌↔◌, ◌<◌, [], length, take, map, IsTrue, IfOk, MatchOption};
+//! The children of a node, and the plan of a node that has none.
+ghost use Rattle.std.specs.Prelude.{ℕ, List, ◌≡◌, ◌↔◌, ◌≤◌, ◌<◌, ◌^◌, length, map, All, IsTrue, IfOk};
+ghost use Rattle.inst_text.specs.Limits.{job_limit};
 ghost use Rattle.inst_text.specs.Shop.{IsJobShop};
-ghost use Rattle.bb_shop.specs.Working.{FitTo, IsLastLeft, left_in, child_of};
+ghost use Rattle.bb_problem.specs.Expanding.{StandBelow};
+ghost use Rattle.bb_shop.specs.Plans.{makespan};
+ghost use Rattle.bb_shop.specs.Dispatching.{state_of};
+ghost use Rattle.bb_shop.specs.Branching.{Stands};
+ghost use Rattle.bb_shop.specs.Working.{FitTo, IsLeftAt, left_in, child_of};
 
 use crate::node::ShopNode;
+use crate::planning::plan;
 use crate::shop::Shop;
+use arrayvec::ArrayVec;
+use inst_text::{JOB_LIMIT, Starts};
 use pq_io::NoMemory;
 use std::alloc::Global;
 
-/// The last job that has fewer steps done than there are machines. One pass.
-pub fn last_left(steps: &[u8], machines: usize) -> Option<usize>
-    ensures { MatchOption result (left_in machines steps.now ≡ []) (λ last. IsLastLeft machines steps.now last) }
+const MOST_JOBS: usize = JOB_LIMIT as usize;
+
+/// Some jobs of a shop. It takes no memory.
+pub type SomeJobs = ArrayVec<u8, { MOST_JOBS }>;
+
+/// The jobs that have fewer steps done than there are machines, in order. One pass.
+fn left(steps: &[u32], machines: usize) -> SomeJobs
+    requires { length steps.now ≤ job_limit }
+    ensures { result.items ≡ left_in machines steps.now }
 {
-    let mut last = None;
+    let mut jobs = SomeJobs::new();
     for (job, step) in steps.iter().enumerate() {
-        if usize::from(*step) < machines {
-            last = Some(job);
+        if (*step as usize) < machines {
+            jobs.push(job as u8);
         }
     }
-    last
+    jobs
 }
 
 impl Shop {
     /// Tells whether the node is of as many jobs and machines as the shop. Constant time.
-    pub(crate) fn fits(&self, node: &ShopNode) -> bool
+    pub fn fits(&self, node: &ShopNode) -> bool
         ensures fits { IsTrue result ↔ FitTo self.now node.now.steps node.now.jobs node.now.machines }
         ensures within_limits { IsJobShop self.now }
     {
@@ -31,45 +46,44 @@ impl Shop {
             && node.machines().len() == self.machine_count()
     }
 
-    /// The children of a node of this shop, whose last job with an operation left this is. The last child takes
-    /// over the node's memory, the others copy it.
-    pub(crate) fn children(
-        &self,
-        alloc: Global,
-        node: ShopNode,
-        last: usize,
-    ) -> Result<Vec<ShopNode>, NoMemory>
-        requires fit { FitTo self.now node.steps node.jobs node.machines }
-        requires last { IsLastLeft self.now.machines node.steps last }
-        ensures { IfOk result (λ nodes. nodes.items ≡ map (child_of self.now node) (left_in self.now.machines node.steps)) }
+    /// The jobs that have operations left at a node, in order. One pass over the jobs.
+    pub fn jobs_left(&self, node: &ShopNode) -> SomeJobs
+        requires { FitTo self.now node.now.steps node.now.jobs node.now.machines }
+        ensures jobs { result.items ≡ left_in self.now.machines node.now.steps }
+        ensures left { All (IsLeftAt self.now node.now) result.items }
     {
-        let mut children = self.first_children(alloc, &node, last)?;
-        let operation = self.operation(last, usize::from(node.steps()[last]));
-        children.push(node.dispatched(operation, last)?)?;
-        Ok(children)
+        left(node.steps(), self.machine_count())
     }
 
-    /// The children that dispatch a job before the last one. Each copies the node.
-    fn first_children(
+    /// The children of a node that dispatch these jobs' next operations, one for each job. Each takes one piece of
+    /// memory. O(n) in the size of the node for each child.
+    pub fn branch(
         &self,
         alloc: Global,
         node: &ShopNode,
-        last: usize,
+        jobs: &[u8],
     ) -> Result<Vec<ShopNode>, NoMemory>
         requires fit { FitTo self.now node.now.steps node.now.jobs node.now.machines }
-        requires last { last < length node.now.steps }
-        ensures { IfOk result (λ nodes. nodes.items ≡ map (child_of self.now node.now) (left_in self.now.machines (take last node.now.steps))) }
+        requires left { All (IsLeftAt self.now node.now) jobs.now }
+        ensures children { IfOk result (λ nodes. nodes.items ≡ map (child_of self.now node.now) jobs.now) }
+        ensures stand { IfOk result (λ nodes. (name : List ℕ) → Stands self.now node.now name →
+            StandBelow (Stands self.now) name nodes.items jobs.now) }
     {
-        let steps = node.steps();
-        let machines = self.machine_count();
-        let mut children = Vec::with_capacity(alloc, last + 1)?;
-        for job in 0..last {
-            let step = usize::from(steps[job]);
-            if step < machines {
-                let operation = self.operation(job, step);
-                children.push(node.dispatching(alloc, operation, job)?)?;
-            }
+        let mut children = Vec::with_capacity(alloc, jobs.len())?;
+        for job in jobs {
+            let job = usize::from(*job);
+            let operation = self.operation(job, node.steps()[job] as usize);
+            children.push(node.dispatching(alloc, operation, job)?)?;
         }
         Ok(children)
+    }
+
+    /// The start times of the operations that a node has dispatched. O(n) in the number of operations.
+    pub fn starts_of(&self, alloc: Global, node: &ShopNode) -> Result<Starts, NoMemory>
+        ensures range { IfOk result (λ starts. makespan self.now starts < 2 ^ 26) }
+        ensures starts { IfOk result (λ starts. (name : List ℕ) → Stands self.now node.now name →
+            starts ≡ (state_of self.now name).starts) }
+    {
+        plan(alloc, self, node.order())
     }
 }

@@ -1,12 +1,13 @@
+//! The verdict on start times: the first clause that fails.
 ghost use Rattle.std.specs.Prelude.{◌≡◌, ◌≤◌, ◌<◌, length};
 ghost use Rattle.inst_text.specs.Shop.{IsJobShop, AreStarts};
 ghost use Rattle.bb_shop.specs.Plans.{row_at, IsOperation, AreShaped};
 ghost use Rattle.bb_shop.specs.Verdicts.{Overlap, IsVerdict};
-ghost use Rattle.bb_shop.specs.Judging.{Finds, FindsPlace, FindsPair, times_at, AreTimed, IsEarlyIn, IsEarlyAt, OverlapsIn, OverlapsFrom};
+ghost use Rattle.bb_shop.specs.Judging.{Finds, FindsOperation, FindsPair, times_at, AreTimed, IsEarlyIn, IsEarlyAt, OverlapsIn, OverlapsFrom};
 
 use crate::booking::Booking;
 use crate::makespan::makespan_of;
-use crate::place::{Pair, Place};
+use crate::operation_id::{OperationId, Pair};
 use crate::verdict::ShopVerdict;
 use inst_text::{Jobs, Operation, Starts};
 
@@ -72,14 +73,14 @@ fn early_in(row: &[Operation], times: &[u32]) -> Option<usize>
 }
 
 /// The first operation, by job and step, that starts before the end of the one before it in its job. One pass.
-fn first_early(jobs: &Jobs, starts: &Starts) -> Option<Place>
+fn first_early(jobs: &Jobs, starts: &Starts) -> Option<OperationId>
     requires { AreShaped jobs.now starts.now }
-    ensures first { FindsPlace (IsEarlyAt jobs.now starts.now) result }
+    ensures first { FindsOperation (IsEarlyAt jobs.now starts.now) result }
     ensures within_limits { IsJobShop jobs.now }
 {
     for job in 0..jobs.rows.len() {
         if let Some(step) = early_in(row_of(jobs, job), times_of(starts, job)) {
-            return Some(Place { job, step });
+            return Some(OperationId { job, step });
         }
     }
     None
@@ -99,17 +100,17 @@ fn overlap_in(booking: Booking, row: &[Operation], times: &[u32], from: usize) -
 }
 
 /// The first later operation, by job and step, that overlaps with this one on its machine. One pass.
-fn overlap_after(jobs: &Jobs, starts: &Starts, job: usize, step: usize) -> Option<Place>
+fn overlap_after(jobs: &Jobs, starts: &Starts, job: usize, step: usize) -> Option<OperationId>
     requires shaped { AreShaped jobs.now starts.now }
     requires operation { IsOperation jobs.now job step }
-    ensures { FindsPlace (Overlap jobs.now starts.now job step) result }
+    ensures { FindsOperation (Overlap jobs.now starts.now job step) result }
 {
     let booking = Booking::new(row_of(jobs, job)[step], times_of(starts, job)[step]);
     for later in job..jobs.rows.len() {
         let from = if later == job { step + 1 } else { 0 };
         let row = row_of(jobs, later);
         if let Some(other) = overlap_in(booking, row, times_of(starts, later), from) {
-            return Some(Place {
+            return Some(OperationId {
                 job: later,
                 step: other,
             });
@@ -126,7 +127,7 @@ fn overlap_of(jobs: &Jobs, starts: &Starts, job: usize) -> Option<Pair>
 {
     for step in 0..row_of(jobs, job).len() {
         if let Some(other) = overlap_after(jobs, starts, job, step) {
-            let one = Place { job, step };
+            let one = OperationId { job, step };
             return Some(Pair { one, other });
         }
     }

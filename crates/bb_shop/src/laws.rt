@@ -1,9 +1,11 @@
+//! What is proved of the definitions.
 ghost use Rattle.std.specs.Prelude.{ℕ, List, [], ◌∷◌, ◌≡◌, ◌≤◌};
+ghost use Rattle.inst_text.specs.Limits.{total_limit};
 ghost use Rattle.inst_text.specs.Shop.{JobShop, IsJobShop, AreStarts};
 ghost use Rattle.bb_shop.specs.declared.verdict.ShopVerdict.{ShopVerdict};
 ghost use Rattle.bb_shop.specs.Plans.{IsOperation, AreShaped, end_at, makespan, IsFeasible, IsCheapest};
 ghost use Rattle.bb_shop.specs.Verdicts.{IsVerdict};
-ghost use Rattle.bb_shop.specs.Bounds.{bound_of, root_bound, finishes, figures, greatest};
+ghost use Rattle.bb_shop.specs.Bounds.{bound_of, root_bound, finishes, machine_bounds, greatest};
 ghost use Rattle.bb_shop.specs.Branching.{Reaches, children_of};
 ghost use Rattle.bb_shop.specs.Dispatching.{IsOrder, state_of};
 ghost use Rattle.bb_shop.specs.Worked.{ft06, three_by_three};
@@ -14,15 +16,15 @@ pub fn schedules_are_reached()
 {}
 
 /// Law: the bound of a node is at most what each whole order costs that goes on from it.
-#[tactic(auto, using(crate::specs::Laws::Bounded::bounded))]
+#[tactic(auto, using(crate::specs::TreeLawsHold::Bounded::bounded))]
 pub fn bounds_are_below()
     ensures { (s : JobShop) (name : List ℕ) (v : ℕ) → IsJobShop s → Reaches s name v → bound_of s name ≤ v }
 {}
 
 /// Law: no node's bound exceeds what the times of a job shop can add up to.
-#[tactic(auto, using(crate::specs::Laws::Bounded::bound_within))]
+#[tactic(auto, using(crate::specs::TreeLawsHold::Bounded::bound_within))]
 pub fn bounds_are_within()
-    ensures { (s : JobShop) (name : List ℕ) → IsJobShop s → IsOrder s name → bound_of s name ≤ 67108863 }
+    ensures { (s : JobShop) (name : List ℕ) → IsJobShop s → IsOrder s name → bound_of s name ≤ total_limit }
 {}
 
 /// Law: the makespan is the greatest end: no operation ends after it, and some operation ends at it.
@@ -47,18 +49,18 @@ pub fn root_bound_is_bound()
     ensures { (s : JobShop) (starts : List (List ℕ)) → IsJobShop s → IsFeasible s starts → root_bound s ≤ makespan s starts }
 {}
 
-/// Law: each start of a best schedule is within the limit of start times, 67,108,863.
+/// Law: each start of a best schedule is within the limit of start times.
 #[tactic(auto, using(crate::proofs::Ends::best_starts_early))]
 pub fn best_starts_are_early()
     ensures { (s : JobShop) (starts : List (List ℕ)) → IsJobShop s → IsCheapest s starts → AreStarts starts }
 {}
 
 /// Law: the definitions give what is known of two worked shops. At the root of ft06 the longest job takes 47, and
-/// these are the machines' figures. In the shop of three by three, this order ends at 11.
-#[tactic(auto, using(crate::proofs::WorkedShops::ft06_bound, crate::proofs::WorkedShops::ft06_longest, crate::proofs::WorkedShops::ft06_figures, crate::proofs::WorkedShops::three_children, crate::proofs::WorkedShops::three_starts, crate::proofs::WorkedShops::three_makespan))]
+/// these are the machines' bounds. In the shop of three by three, this order ends at 11.
+#[tactic(auto, using(crate::proofs::WorkedShops::ft06_bound, crate::proofs::WorkedShops::ft06_longest, crate::proofs::WorkedShops::ft06_machine_bounds, crate::proofs::WorkedShops::three_children, crate::proofs::WorkedShops::three_starts, crate::proofs::WorkedShops::three_makespan))]
 pub fn worked_shops()
     ensures longest { greatest (finishes ft06 (state_of ft06 [])) ≡ 47 }
-    ensures figures { figures ft06 (state_of ft06 []) ≡ 42 ∷ 33 ∷ 26 ∷ 25 ∷ 52 ∷ 49 ∷ [] }
+    ensures machine_bounds { machine_bounds ft06 (state_of ft06 []) ≡ 42 ∷ 33 ∷ 26 ∷ 25 ∷ 52 ∷ 49 ∷ [] }
     ensures bound { root_bound ft06 ≡ 52 }
     ensures children { children_of three_by_three (1 ∷ 1 ∷ 1 ∷ 0 ∷ []) ≡ 0 ∷ 2 ∷ [] }
     ensures starts { (state_of three_by_three (1 ∷ 2 ∷ 0 ∷ 1 ∷ 0 ∷ 1 ∷ 2 ∷ 0 ∷ 2 ∷ [])).starts ≡ (2 ∷ 5 ∷ 7 ∷ []) ∷ (0 ∷ 2 ∷ 7 ∷ []) ∷ (0 ∷ 4 ∷ 7 ∷ []) ∷ [] }

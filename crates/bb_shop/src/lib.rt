@@ -10,19 +10,21 @@ mod laws;
 mod machine_load;
 mod makespan;
 mod node;
-mod place;
+mod operation_id;
 mod planning;
-mod prepared;
+mod prepared_operation;
 mod problem;
 mod shop;
 #[cfg(test)]
 mod tests;
 mod verdict;
 
+pub use branching::SomeJobs;
 pub use laws::{
     best_starts_are_early, bounds_are_below, bounds_are_within, makespan_is_greatest_end,
     one_verdict, root_bound_is_bound, schedules_are_reached, worked_shops,
 };
 pub use node::ShopNode;
+pub use prepared_operation::PreparedOperation;
 pub use shop::Shop;
 pub use verdict::ShopVerdict;

@@ -1,6 +1,7 @@
+//! What the operations that are left ask of a machine.
 ghost use Rattle.std.specs.Prelude.{ℕ, ◌≡◌, ◌+◌, ◌≤◌, ◌<◌, ◌^◌, length, map};
 ghost use Rattle.bb_shop.specs.Bounds.{Busy, greatest};
-ghost use Rattle.bb_shop.specs.Loading.{unloaded, laden, load_in, figure_of};
+ghost use Rattle.bb_shop.specs.Loading.{unloaded, with_load, load_in, machine_bound_of};
 
 /// What some operations ask of a machine: the least of their heads, the sum of their times and the least of
 /// their tails. Of no operations both least numbers are `u32::MAX`.
@@ -25,7 +26,7 @@ impl MachineLoad {
     /// With one operation more. Constant time.
     pub fn with(self, head: u32, time: u32, tail: u32) -> MachineLoad
         requires { self.time + time < 2 ^ 32 }
-        ensures { result ≡ laden self (Busy head time tail) }
+        ensures { result ≡ with_load self (Busy head time tail) }
     {
         MachineLoad {
             head: self.head.min(head),
@@ -35,9 +36,9 @@ impl MachineLoad {
     }
 
     /// The least head, the time and the least tail added up, and 0 of no operations. Constant time.
-    pub fn figure(self) -> u32
-        requires { figure_of self < 2 ^ 32 }
-        ensures { result ≡ figure_of self }
+    pub fn machine_bound(self) -> u32
+        requires { machine_bound_of self < 2 ^ 32 }
+        ensures { result ≡ machine_bound_of self }
     {
         if self.head == u32::MAX {
             return 0;
@@ -46,14 +47,14 @@ impl MachineLoad {
     }
 }
 
-/// The greatest figure of these loads. One pass.
-pub fn greatest_figure(loads: &[MachineLoad]) -> u32
-    requires { (m : ℕ) → figure_of (load_in loads.now m) < 2 ^ 32 }
-    ensures { result ≡ greatest (map figure_of loads.now) }
+/// The greatest bound of these loads. One pass.
+pub fn greatest_machine_bound(loads: &[MachineLoad]) -> u32
+    requires { (m : ℕ) → machine_bound_of (load_in loads.now m) < 2 ^ 32 }
+    ensures { result ≡ greatest (map machine_bound_of loads.now) }
 {
     let mut greatest = 0;
     for load in loads {
-        greatest = load.figure().max(greatest);
+        greatest = load.machine_bound().max(greatest);
     }
     greatest
 }

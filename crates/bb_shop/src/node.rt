@@ -1,50 +1,48 @@
-ghost use Rattle.std.specs.Prelude.{◌≡◌, ◌≤◌, ◌<◌, [], length, replicate, slice_index, IfOk};
-ghost use Rattle.bb_shop.specs.Branching.{Node};
+//! A node of the search, and what dispatching an operation makes of it.
+ghost use Rattle.std.specs.Prelude.{◌≡◌, ◌+◌, ◌≤◌, ◌<◌, [], length, replicate, slice_index, IfOk};
+ghost use Rattle.inst_text.specs.Limits.{job_limit, machine_limit, total_limit};
 ghost use Rattle.bb_shop.specs.Working.{AreUpTo, child_by};
 
-use inst_text::Operation;
+use inst_text::{JOB_LIMIT, MACHINE_LIMIT, Operation, TOTAL_LIMIT};
 use pq_io::NoMemory;
 use std::alloc::Global;
 use std::marker::Model;
 
-/// The latest time that a job or a machine is ready at.
-pub const LATEST: u32 = 67_108_863;
-
 /// A node of the search: the jobs dispatched so far, each job's next step, and when the jobs and the machines
 /// are ready for their next operations.
 ///
-/// It takes two pieces of memory, each of its final size from the beginning.
+/// It takes one piece of memory, of just the numbers that it has.
 #[derive(Debug, Drop)]
 pub struct ShopNode {
-    count: usize,
-    /// The ready times of the jobs, as many as `count`, and then of the machines.
-    ready: Vec<u32>,
-    /// The next steps of the jobs, and then the jobs dispatched so far.
-    route: Vec<u8>,
+    job_count: u32,
+    machine_count: u32,
+    /// The ready times of the jobs, those of the machines, the next steps of the jobs, and the jobs dispatched
+    /// so far.
+    numbers: Vec<u32>,
 }
 
 impl Model for ShopNode {
-    ghost use Rattle.std.specs.Prelude.{take, drop};
+    ghost use Rattle.std.specs.Prelude.{◌+◌, take, drop};
     ghost use Rattle.bb_shop.specs.Branching.{Node};
-    ghost use Rattle.bb_shop.specs.Working.{IsKept};
+    ghost use Rattle.bb_shop.specs.Working.{IsKept, part};
 
     ghost Value = { Node };
 
     ghost view = { λ n. record {
-      order = drop n.count n.route.items;
-      steps = take n.count n.route.items;
-      jobs = take n.count n.ready.items;
-      machines = drop n.count n.ready.items;
+      order = drop (n.job_count + n.machine_count + n.job_count) n.numbers.items;
+      steps = part (n.job_count + n.machine_count) (n.job_count + n.machine_count + n.job_count) n.numbers.items;
+      jobs = take n.job_count n.numbers.items;
+      machines = part n.job_count (n.job_count + n.machine_count) n.numbers.items;
     } };
 
-    ghost invariant = { λ n. IsKept n.count n.ready.items n.route.items };
+    ghost invariant = { λ n. IsKept n.job_count n.machine_count n.numbers.items };
 }
 
 impl ShopNode {
-    /// The node that dispatches nothing yet. O(n) in the number of operations.
+    /// The node that dispatches nothing yet. O(n) in the number of jobs and machines.
     pub(crate) fn root(alloc: Global, jobs: usize, machines: usize) -> Result<ShopNode, NoMemory>
-        requires jobs { jobs ≤ 100 }
-        requires machines { machines ≤ 100 }
+        requires jobs { jobs ≤ job_limit }
+        requires machines { machines ≤ machine_limit }
         ensures { IfOk result (λ node. node ≡ record {
           order = [];
           steps = replicate jobs 0;
@@ -52,58 +50,45 @@ impl ShopNode {
           machines = replicate machines 0;
         }) }
     {
-        let at_once = [0u32; 200];
-        let first_steps = [0u8; 100];
-        let mut route = Vec::with_capacity(alloc, jobs + jobs * machines)?;
-        route.extend_from_slice(&first_steps[..jobs])?;
+        let none = [0u32; (2 * JOB_LIMIT + MACHINE_LIMIT) as usize];
         Ok(ShopNode {
-            count: jobs,
-            ready: Vec::from_slice(alloc, &at_once[..jobs + machines])?,
-            route,
+            job_count: jobs as u32,
+            machine_count: machines as u32,
+            numbers: Vec::from_slice(alloc, &none[..jobs + machines + jobs])?,
         })
-    }
-
-    /// The jobs dispatched so far. Constant time.
-    pub(crate) fn order(&self) -> &[u8]
-        ensures { result.now ≡ self.now.order }
-    {
-        &self.route[self.count..]
-    }
-
-    /// Each job's next step. Constant time.
-    pub(crate) fn steps(&self) -> &[u8]
-        ensures { result.now ≡ self.now.steps }
-    {
-        &self.route[..self.count]
     }
 
     /// When each job is ready. Constant time.
-    pub(crate) fn jobs(&self) -> &[u32]
+    pub fn jobs(&self) -> &[u32]
         ensures jobs { result.now ≡ self.now.jobs }
-        ensures within { AreUpTo 67108863 self.now.jobs }
+        ensures within { AreUpTo total_limit self.now.jobs }
     {
-        &self.ready[..self.count]
+        &self.numbers[..self.job_count as usize]
     }
 
     /// When each machine is ready. Constant time.
-    pub(crate) fn machines(&self) -> &[u32]
+    pub fn machines(&self) -> &[u32]
         ensures machines { result.now ≡ self.now.machines }
-        ensures within { AreUpTo 67108863 self.now.machines }
+        ensures within { AreUpTo total_limit self.now.machines }
     {
-        &self.ready[self.count..]
+        let first = self.job_count as usize;
+        &self.numbers[first..first + self.machine_count as usize]
     }
 
-    /// The same node again. It copies both pieces of memory.
-    fn copied(&self, alloc: Global) -> Result<ShopNode, NoMemory>
-        ensures { IfOk result (λ node. node ≡ self.now) }
+    /// Each job's next step. Constant time.
+    pub fn steps(&self) -> &[u32]
+        ensures { result.now ≡ self.now.steps }
     {
-        let mut route = Vec::with_capacity(alloc, self.route.capacity())?;
-        route.extend_from_slice(self.route.as_slice())?;
-        Ok(ShopNode {
-            count: self.count,
-            ready: Vec::from_slice(alloc, self.ready.as_slice())?,
-            route,
-        })
+        let first = self.job_count as usize + self.machine_count as usize;
+        &self.numbers[first..first + self.job_count as usize]
+    }
+
+    /// The jobs dispatched so far. Constant time.
+    pub fn order(&self) -> &[u32]
+        ensures { result.now ≡ self.now.order }
+    {
+        let first = self.job_count as usize + self.machine_count as usize;
+        &self.numbers[first + self.job_count as usize..]
     }
 
     /// The child that dispatches this operation, the job's next one. It copies the node.
@@ -113,39 +98,26 @@ impl ShopNode {
         operation: Operation,
         job: usize,
     ) -> Result<ShopNode, NoMemory>
-        requires few { length self.now.steps ≤ 100 }
+        requires few { length self.now.steps ≤ job_limit }
         requires job { job < length self.now.steps }
-        requires step { slice_index self.now.steps job < 100 }
+        requires step { slice_index self.now.steps job < machine_limit }
         requires machine { operation.machine < length self.now.machines }
         ensures { IfOk result (λ child. child ≡ child_by self.now operation job) }
     {
-        self.copied(alloc)?.dispatched(operation, job)
-    }
-
-    /// The child that dispatches this operation, the job's next one. It takes over the node. Constant time.
-    pub(crate) fn dispatched(self, operation: Operation, job: usize) -> Result<ShopNode, NoMemory>
-        requires few { length self.steps ≤ 100 }
-        requires job { job < length self.steps }
-        requires step { slice_index self.steps job < 100 }
-        requires machine { operation.machine < length self.machines }
-        ensures { IfOk result (λ child. child ≡ child_by self operation job) }
-    {
-        let ShopNode {
-            count,
-            mut ready,
-            mut route,
-        } = self;
-        let machine = count + operation.machine as usize;
-        let start = ready[job].max(ready[machine]);
-        let end = start.saturating_add(operation.time).min(LATEST);
-        ready[job] = end;
-        ready[machine] = end;
-        route[job] += 1;
-        route.push(job as u8)?;
+        let ready = self.job_count as usize + self.machine_count as usize;
+        let machine = self.job_count as usize + operation.machine as usize;
+        let mut numbers = Vec::with_capacity(alloc, self.numbers.len() + 1)?;
+        numbers.extend_from_slice(self.numbers.as_slice())?;
+        let start = numbers[job].max(numbers[machine]);
+        let end = start.saturating_add(operation.time).min(TOTAL_LIMIT);
+        numbers[job] = end;
+        numbers[machine] = end;
+        numbers[ready + job] += 1;
+        numbers.push(job as u32)?;
         Ok(ShopNode {
-            count,
-            ready,
-            route,
+            job_count: self.job_count,
+            machine_count: self.machine_count,
+            numbers,
         })
     }
 }

@@ -1,10 +1,11 @@
+//! The start times that an order of dispatching comes to.
 ghost use Rattle.std.specs.Prelude.{◌≡◌, ◌+◌, ◌≤◌, ◌<◌, ◌^◌, length, max, slice_index, IfOk};
 ghost use Rattle.inst_text.specs.Shop.{IsJobShop};
 ghost use Rattle.bb_shop.specs.Dispatching.{State, opened, number_in, step_of, dispatched, IsLeft};
 ghost use Rattle.bb_shop.specs.Working.{dispatched_by, IsReached, IsPlanOf};
 
 use crate::shop::Shop;
-use inst_text::{Operation, Starts};
+use inst_text::{JOB_LIMIT, MACHINE_LIMIT, Operation, Starts};
 use pq_io::NoMemory;
 use std::alloc::Global;
 use std::marker::Model;
@@ -37,7 +38,7 @@ impl Schedule {
         ensures opened { IfOk result (λ st. st ≡ opened shop.now) }
         ensures within_limits { IsJobShop shop.now }
     {
-        let at_once = [0u32; 100];
+        let at_once = [0u32; (JOB_LIMIT + MACHINE_LIMIT) as usize];
         let mut starts = Vec::new(alloc);
         for _job in 0..shop.job_count() {
             starts.push(Vec::new(alloc))?;
@@ -101,12 +102,13 @@ fn dispatch(shop: &Shop, schedule: Schedule, job: usize) -> Result<Schedule, NoM
 
 /// The start times come to by dispatching these jobs in order. A job that has no operation left is passed over.
 /// O(n) in the number of operations.
-pub fn plan(alloc: Global, shop: &Shop, order: &[u8]) -> Result<Starts, NoMemory>
-    ensures { IfOk result (λ starts. IsPlanOf shop.now order.now starts) }
+pub fn plan(alloc: Global, shop: &Shop, order: &[u32]) -> Result<Starts, NoMemory>
+    ensures plan { IfOk result (λ starts. IsPlanOf shop.now order.now starts) }
+    ensures within_limits { IsJobShop shop.now }
 {
     let mut schedule = Schedule::opened(alloc, shop)?;
     for job in order {
-        schedule = dispatch(shop, schedule, usize::from(*job))?;
+        schedule = dispatch(shop, schedule, *job as usize)?;
     }
     let Schedule { starts, .. } = schedule;
     Ok(Starts { rows: starts })

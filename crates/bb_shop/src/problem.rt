@@ -1,18 +1,17 @@
+//! The job shop as a problem to search: dispatch one operation after another.
 ghost use Rattle.std.specs.Prelude.{ℕ, List, ◌≡◌, IfOk};
 ghost use Rattle.inst_text.specs.Shop.{IsJobShop};
 ghost use Rattle.bb_problem.specs.Expanding.{IsExpanded, IsInRange, IfLeaf};
 ghost use Rattle.bb_shop.specs.Dispatching.{state_of};
 ghost use Rattle.bb_shop.specs.Plans.{makespan};
 ghost use Rattle.bb_shop.specs.Branching.{Stands, meaning_of};
-ghost use Rattle.bb_shop.specs.Laws.Lawful.{lawful};
+ghost use Rattle.bb_shop.specs.TreeLawsHold.Lawful.{lawful};
 
-use crate::branching::last_left;
 use crate::makespan::makespan_of;
-use crate::node::{LATEST, ShopNode};
-use crate::planning::plan;
+use crate::node::ShopNode;
 use crate::shop::Shop;
 use bb_problem::{Problem, Step};
-use inst_text::Starts;
+use inst_text::{Starts, TOTAL_LIMIT};
 use pq_io::NoMemory;
 use std::alloc::Global;
 
@@ -40,7 +39,7 @@ impl Problem for Shop {
             return 0;
         }
         self.bound_by(node.steps(), node.jobs(), node.machines())
-            .min(LATEST)
+            .min(TOTAL_LIMIT)
     }
 
     /// The plan of a node that dispatches all operations, else a child for each job that has operations left.
@@ -50,14 +49,16 @@ impl Problem for Shop {
         ensures expanded { IfOk result (λ step. (name : List ℕ) → Stands self.now node name →
             IsExpanded (meaning_of self.now) name step) }
         // A leaf has the start times of the dispatched operations.
-        ensures leaf { IfOk result (λ step. (name : List ℕ) → Stands self.now node name → IfLeaf (λ starts. starts ≡ (state_of self.now name).starts) step) }
+        ensures leaf { IfOk result (λ step. (name : List ℕ) → Stands self.now node name →
+            IfLeaf (λ starts. starts ≡ (state_of self.now name).starts) step) }
     {
         if self.fits(&node) {
-            if let Some(last) = last_left(node.steps(), self.machine_count()) {
-                return Ok(Step::Branch(self.children(alloc, node, last)?));
+            let jobs = self.jobs_left(&node);
+            if !jobs.is_empty() {
+                return Ok(Step::Branch(self.branch(alloc, &node, jobs.as_slice())?));
             }
         }
-        Ok(Step::Leaf(plan(alloc, self, node.order())?))
+        Ok(Step::Leaf(self.starts_of(alloc, &node)?))
     }
 
     /// The makespan. One pass over the start times.

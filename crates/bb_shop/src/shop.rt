@@ -1,3 +1,4 @@
+//! The job-shop problem, and its calls.
 ghost use Rattle.std.specs.Prelude.{◌≡◌, ◌≤◌, ◌<◌, drop, length, IfOk};
 ghost use Rattle.inst_text.specs.Shop.{IsJobShop};
 ghost use Rattle.bb_shop.specs.Plans.{row_at, operation_at, AreShaped, makespan};
@@ -7,9 +8,9 @@ ghost use Rattle.bb_shop.specs.Tables.{prepared_row};
 
 use crate::judging::judged;
 use crate::makespan::makespan_of;
-use crate::prepared::{Prepared, operation_table};
+use crate::prepared_operation::{PreparedOperation, operation_table};
 use crate::verdict::ShopVerdict;
-use inst_text::{Jobs, Operation, Starts};
+use inst_text::{JOB_LIMIT, Jobs, MACHINE_LIMIT, Operation, Starts};
 use pq_io::NoMemory;
 use std::alloc::Global;
 use std::marker::Model;
@@ -20,7 +21,7 @@ use std::marker::Model;
 #[derive(Debug, Drop)]
 pub struct Shop {
     jobs: Jobs,
-    table: Vec<Prepared>,
+    table: Vec<PreparedOperation>,
 }
 
 impl Model for Shop {
@@ -69,7 +70,7 @@ impl Shop {
         jobs.machines as usize
     }
 
-    /// The least makespan that the bound of the root allows, at most 67,108,863: the greatest, over the jobs, of the
+    /// The least makespan that the bound of the root allows, at most `TOTAL_LIMIT`: the greatest, over the jobs, of the
     /// sum of their times, and over the machines, of the least head, the sum of the times and the least tail of their
     /// operations (J. Carlier and E. Pinson, An algorithm for solving the job-shop problem, 1989). It takes no memory.
     /// O(n) in the number of operations.
@@ -78,9 +79,8 @@ impl Shop {
     {
         let jobs = self.job_count();
         let machines = self.machine_count();
-        let steps = [0u8; 100];
-        let ready = [0u32; 100];
-        self.bound_by(&steps[..jobs], &ready[..jobs], &ready[..machines])
+        let none = [0u32; (JOB_LIMIT + MACHINE_LIMIT) as usize];
+        self.bound_by(&none[..jobs], &none[..jobs], &none[..machines])
     }
 
     /// The verdict on start times and the makespan that is stated for them: the first clause that fails. It takes
@@ -100,7 +100,7 @@ impl Shop {
     }
 
     /// The job's operation at this step. Constant time.
-    pub(crate) fn operation(&self, job: usize, step: usize) -> Operation
+    pub fn operation(&self, job: usize, step: usize) -> Operation
         requires job { job < length self.now.rows }
         requires step { step < self.now.machines }
         ensures operation { result ≡ operation_at self.now job step }
@@ -110,8 +110,8 @@ impl Shop {
         self.table[job * machines + step].operation
     }
 
-    /// The job's operations from this step on. Constant time.
-    pub(crate) fn rest(&self, job: usize, step: usize) -> &[Prepared]
+    /// The job's operations from this step on, each with its tail. Constant time.
+    pub fn rest(&self, job: usize, step: usize) -> &[PreparedOperation]
         requires { job < length self.now.rows }
         ensures { result.now ≡ prepared_row (drop step (row_at self.now.rows job)) }
     {

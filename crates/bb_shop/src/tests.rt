@@ -1,3 +1,4 @@
+//! Tests of bounds, branches and plans.
 ghost use Rattle.std.specs.Prelude.{ℕ, ◌≡◌, ◌≤◌, ◌<◌, List, [], ◌∷◌, length, IfOk};
 
 use crate::{Shop, ShopNode};
@@ -94,7 +95,7 @@ fn plan(alloc: Global, shop: &Shop, node: ShopNode) -> Result<Option<Starts>, No
 }
 
 // the jobs that the node at this place has dispatched
-fn order_at(nodes: &[ShopNode], place: usize) -> &[u8] {
+fn order_at(nodes: &[ShopNode], place: usize) -> &[u32] {
     match nodes.get(place) {
         Some(node) => node.order(),
         None => &[],
@@ -128,8 +129,14 @@ fn branches_on_the_jobs_left(rt: HostRuntime) -> Result<(), Fail> {
     let node = come_to(alloc, &shop, &[1, 1, 1, 0])?;
     let nodes = children(alloc, &shop, node)?;
     assert_eq!(rt; nodes.len(), 2);
-    assert_eq!(rt; order_at(nodes.as_slice(), 0), [1u8, 1, 1, 0, 0].as_slice());
-    assert_eq!(rt; order_at(nodes.as_slice(), 1), [1u8, 1, 1, 0, 2].as_slice());
+    assert_eq!(rt;
+        order_at(nodes.as_slice(), 0),
+        [1u32, 1, 1, 0, 0].as_slice()
+    );
+    assert_eq!(rt;
+        order_at(nodes.as_slice(), 1),
+        [1u32, 1, 1, 0, 2].as_slice()
+    );
     Ok(())
 }
 
@@ -139,7 +146,7 @@ fn plans_an_order_of_three_jobs(rt: HostRuntime) -> Result<(), Fail> {
     let shop = three(alloc)?;
     // the jobs 1 2 0 1 0 1 2 0 2, by their places among those that are left
     let leaf = come_to(alloc, &shop, &[1, 2, 0, 1, 0, 1, 1, 0, 0])?;
-    assert_eq!(rt; leaf.order(), [1u8, 2, 0, 1, 0, 1, 2, 0, 2].as_slice());
+    assert_eq!(rt; leaf.order(), [1u32, 2, 0, 1, 0, 1, 2, 0, 2].as_slice());
     let Some(starts) = plan(alloc, &shop, leaf)? else {
         assert!(rt; false);
         return Ok(());

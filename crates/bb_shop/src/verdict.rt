@@ -1,3 +1,4 @@
+//! What a verdict on start times says.
 /// What is found of start times and the makespan that is stated for them. Jobs and steps are numbered from 0.
 #[derive(Clone, Copy, Debug, PartialEq, Eq)]
 pub enum ShopVerdict {

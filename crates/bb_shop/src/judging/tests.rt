@@ -1,3 +1,4 @@
+//! Tests of the verdicts.
 ghost use Rattle.std.specs.Prelude.{ℕ, ◌≡◌, List, [], ◌∷◌, length, IfOk};
 ghost use Rattle.std.specs.List.{AllByRecursion};
 ghost use Rattle.inst_text.specs.Shop.{AreStarts};

@@ -5,7 +5,7 @@ use Rattle.inst_text.specs.declared.shop.Operation.{Operation}
 use Rattle.bb_shop.specs.Plans.{operation_at}
 use Rattle.bb_shop.specs.Dispatching.{State, number_in, next_of, IsLeft, dispatched}
 use Rattle.bb_shop.specs.Working.{dispatched_by}
-use Rattle.bb_shop.specs.Laws.States.{next_machine-lt}
+use Rattle.bb_shop.specs.TreeLawsHold.States.{next_machine-lt}
 use Rattle.bb_shop.proofs.Planned.{dispatched-is, reached_state, reached_end}
 use Rattle.bb_shop.proofs.planning.dispatch.Goals as goal
 

@@ -1,8 +1,8 @@
 use Rattle.std.proofs.Common.{◌≡◌, sym, ap, ◌∙◌, arith}
 use Rattle.std.proofs.lemmas.Bool.{false≢true}
 use Rattle.bb_shop.specs.Working.{bound_by}
-use Rattle.bb_shop.specs.Laws.Bounded.{bound_within}
-use Rattle.bb_shop.proofs.Standing.{stands_fits, stands_bound}
+use Rattle.bb_shop.specs.TreeLawsHold.Bounded.{bound_within}
+use Rattle.bb_shop.specs.TreeLawsHold.Standing.{stands_fits, stands_bound}
 use Rattle.bb_shop.proofs.problem.ShopProblem.bound.Goals as goal
 
 pub returns-then-not-fits-clause-exact : goal.returns-then-not-fits-clause-exact

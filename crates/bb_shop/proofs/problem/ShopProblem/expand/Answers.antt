@@ -1,43 +1,31 @@
-use Rattle.std.proofs.Common.{◌≡◌, [], sym, ap, subst, ◌∙◌}
+use Rattle.std.proofs.Common.{◌≡◌, ◌≤◌, [], length, sym, ap, subst, ◌∙◌, arith}
 use Rattle.std.proofs.lemmas.Bool.{false≢true}
-use Rattle.bb_shop.specs.Working.{FitTo, IsLastLeft, left_in, IsPlanOf}
-use Rattle.bb_shop.proofs.Standing.{stands_fits, branch_stands, branch_size, plan_within, leaf_stands, leaf_starts}
+use Rattle.std.proofs.lemmas.Bool.Decides.{nat_tests}
+use Rattle.std.proofs.lemmas.List.{nil_from_length}
+use Rattle.bb_problem.specs.Expanding.{StandBelow}
+use Rattle.bb_shop.specs.Branching.{Stands}
+use Rattle.bb_shop.specs.Working.{left_in}
+use Rattle.bb_shop.specs.TreeLawsHold.Standing.{stands_fits, left_are_children, leaf_stands}
 use Rattle.bb_shop.proofs.problem.ShopProblem.expand.Goals as goal
-use Rattle.bb_shop.proofs.problem.ShopProblem.expand.Goals.{then-fits+in_default, else-fits}
+use Rattle.bb_shop.proofs.problem.ShopProblem.expand.Goals.{then-fits+else-not-is_empty, else-fits}
 
-pub returns-in-Some-clause-range : goal.returns-in-Some-clause-range
-returns-in-Some-clause-range c =
+pub returns-then-not-is_empty-clause-expanded : goal.returns-then-not-is_empty-clause-expanded
+returns-then-not-is_empty-clause-expanded c = λ name stands.
     let s = c.args.self.now in
     let node = c.args.node in
-    let fit : FitTo s node.steps node.jobs node.machines = c.fits.ensures.fits.0 c.if-fits.true in
-    let last : IsLastLeft s.machines node.steps c.in-Some.last =
-    subst (λ xs. IsLastLeft s.machines xs c.in-Some.last) c.steps.ensures (subst (λ m. IsLastLeft m c.steps.result.now c.in-Some.last) c.machine_count.ensures.count c.in-Some.ensures) in
-    branch_size s node c.in-Some.last c.in_ok-children.field-0.items c.fits.ensures.within_limits fit last c.in_ok-children.ensures
-
-pub returns-in-Some-clause-expanded : goal.returns-in-Some-clause-expanded
-returns-in-Some-clause-expanded c = λ name stands.
-    let s = c.args.self.now in
-    let node = c.args.node in
-    let last : IsLastLeft s.machines node.steps c.in-Some.last =
-    subst (λ xs. IsLastLeft s.machines xs c.in-Some.last) c.steps.ensures (subst (λ m. IsLastLeft m c.steps.result.now c.in-Some.last) c.machine_count.ensures.count c.in-Some.ensures) in
-    branch_stands s node name c.in-Some.last c.in_ok-children.field-0.items c.fits.ensures.within_limits stands last c.in_ok-children.ensures
-
-pub returns-clause-range : goal.returns-clause-range
-returns-clause-range c = plan_within c.args.self.now c.order.result.now c.in_ok-plan.field-0 c.fits.ensures.within_limits c.in_ok-plan.ensures
+    let jobs : c.as_slice.result.now ≡ left_in s.machines node.steps = c.as_slice.ensures.value ∙ c.jobs_left-jobs.ensures.jobs in
+    let some : 1 ≤ length (left_in s.machines node.steps) = grind (arith, nat_tests, c.is_empty.ensures, c.if-not-is_empty.true, ap length c.jobs_left-jobs.ensures.jobs) in
+    subst (StandBelow (Stands s) name c.in_ok-branch.field-0.items) (jobs ∙ left_are_children s node name stands some) (c.in_ok-branch.ensures.stand name stands)
 
 pub returns-clause-expanded : goal.returns-clause-expanded
 returns-clause-expanded c = λ name stands.
     let s = c.args.self.now in
     let node = c.args.node in
-    let plan : IsPlanOf s node.order c.in_ok-plan.field-0 = subst (λ o. IsPlanOf s o c.in_ok-plan.field-0) c.order.ensures c.in_ok-plan.ensures in
     let none : left_in s.machines node.steps ≡ [] =
     elim c.if-fits.branch [
-      | then-fits+in_default w ↦ sym (ap (λ m. left_in m node.steps) w.machine_count.ensures.count) ∙ sym (ap (left_in w.machine_count.result) w.steps.ensures) ∙ w.in_default.ensures
+      | then-fits+else-not-is_empty w ↦
+          let empty : length (left_in s.machines node.steps) ≡ 0 = grind (arith, nat_tests, w.is_empty.ensures, w.if-not-is_empty.false, ap length w.jobs_left-jobs.ensures.jobs) in
+          nil_from_length (left_in s.machines node.steps) empty
       | else-fits w ↦ absurd (false≢true (sym w.if-fits.false ∙ c.fits.ensures.fits.1 (stands_fits s node name c.fits.ensures.within_limits stands)))
     ] in
-    leaf_stands s node name c.in_ok-plan.field-0 c.fits.ensures.within_limits stands none plan
-
-pub returns-clause-leaf : goal.returns-clause-leaf
-returns-clause-leaf c = λ name stands.
-    let s = c.args.self.now in
-    leaf_starts s c.args.node name c.in_ok-plan.field-0 stands (subst (λ o. IsPlanOf s o c.in_ok-plan.field-0) c.order.ensures c.in_ok-plan.ensures)
+    leaf_stands s node name c.in_ok-starts_of.field-0 c.fits.ensures.within_limits stands none (c.in_ok-starts_of.ensures.starts name stands)

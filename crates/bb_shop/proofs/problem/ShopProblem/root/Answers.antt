@@ -1,7 +1,7 @@
 use Rattle.std.proofs.Common.{◌≡◌, ℕ, ◌∙◌, [], length, replicate, ap}
 use Rattle.std.proofs.lemmas.Result.{IfOk-weaker}
 use Rattle.bb_shop.specs.Branching.{Node, Stands}
-use Rattle.bb_shop.proofs.Standing.{root_stands}
+use Rattle.bb_shop.specs.TreeLawsHold.Standing.{root_stands}
 use Rattle.bb_shop.proofs.problem.ShopProblem.root.Goals as goal
 
 abbrev first : ℕ → ℕ → Node

@@ -5,12 +5,12 @@ use Rattle.inst_text.specs.Shop.{row_time, rows_time}
 use Rattle.bb_shop.specs.declared.machine_load.MachineLoad.{MachineLoad}
 use Rattle.bb_shop.specs.Plans.{row_at}
 use Rattle.bb_shop.specs.Bounds.{finish, job_load, greatest, each_from, all_joined}
-use Rattle.bb_shop.specs.Loading.{unloaded, laden, load_in}
+use Rattle.bb_shop.specs.Loading.{unloaded, with_load, load_in}
 use Rattle.bb_shop.specs.Tables.{operations_in}
 use Rattle.bb_shop.specs.Working.{left_of, finish_at, load_at, whole_load}
 use Rattle.bb_shop.proofs.Rows.{row_time-le}
 use Rattle.bb_shop.proofs.Tabled.{HaveTails-prepared_row, operations_in-prepared_row, all-prepared_row, all-drop, named-row, row_time-drop}
-use Rattle.bb_shop.proofs.Lading.{time-laden, IsSmall-from, time-small, greatest-step, load-step}
+use Rattle.bb_shop.proofs.MachineLoads.{time-with_load, IsSmall-from, time-small, greatest-step, load-step}
 use Rattle.bb_shop.proofs.shop.Shop.last_finish.Goals as goal
 
 pub run_job-requires-clause-tails : goal.run_job-requires-clause-tails
@@ -47,10 +47,10 @@ run_job-requires-clause-times c = λ m lt.
     let e : length s.rows - j ≡ suc n = omega (arith, c.loop-job-test.true, c.job_count-job-end.ensures.count) in
     let rest = all_joined (each_from (load_at s steps jobs machines m) (j + 1) n) in
     let split = load-step s steps jobs machines m j n l in
-    let whole : laden l (all_joined (each_from (load_at s steps jobs machines m) j (suc n))) ≡ laden unloaded (whole_load s steps jobs machines m) =
-    ap (λ k. laden l (all_joined (each_from (load_at s steps jobs machines m) j k))) (sym e) ∙ c.loop-job.invariant.loads m lt in
+    let whole : with_load l (all_joined (each_from (load_at s steps jobs machines m) j (suc n))) ≡ with_load unloaded (whole_load s steps jobs machines m) =
+    ap (λ k. with_load l (all_joined (each_from (load_at s steps jobs machines m) j k))) (sym e) ∙ c.loop-job.invariant.loads m lt in
     let small = IsSmall-from s steps jobs machines m 0 (length s.rows) limits c.requires.fit.jobs_ready c.requires.fit.machines_ready (λ i. omega (arith, row_time-le s.rows i, limits.times)) in
-    omega (arith, ap (λ o. (laden l (job_load machines m (get_or jobs j 0) o)).time) os, time-laden (laden l (load_at s steps jobs machines m j)) rest, ap (λ (x : MachineLoad). x.time) split, ap (λ (x : MachineLoad). x.time) whole, time-small (rows_time s.rows) (whole_load s steps jobs machines m) small, limits.times)
+    omega (arith, ap (λ o. (with_load l (job_load machines m (get_or jobs j 0) o)).time) os, time-with_load (with_load l (load_at s steps jobs machines m j)) rest, ap (λ (x : MachineLoad). x.time) split, ap (λ (x : MachineLoad). x.time) whole, time-small (rows_time s.rows) (whole_load s steps jobs machines m) small, limits.times)
 
 pub loop-job-preserved : goal.loop-job-preserved
 loop-job-preserved c =
@@ -73,8 +73,8 @@ loop-job-preserved c =
       loads = λ m lt.
           let l = load_in c.loop-job.loads m in
           let rest = all_joined (each_from (load_at s steps jobs machines m) (j + 1) n) in
-          ap (λ x. laden x rest) (c.run_job.ensures.loads m lt ∙ ap (λ o. laden l (job_load machines m ready o)) os)
+          ap (λ x. with_load x rest) (c.run_job.ensures.loads m lt ∙ ap (λ o. with_load l (job_load machines m ready o)) os)
           ∙ load-step s steps jobs machines m j n l
-          ∙ ap (λ k. laden l (all_joined (each_from (load_at s steps jobs machines m) j k))) (sym e)
+          ∙ ap (λ k. with_load l (all_joined (each_from (load_at s steps jobs machines m) j k))) (sym e)
           ∙ c.loop-job.invariant.loads m lt;
     }

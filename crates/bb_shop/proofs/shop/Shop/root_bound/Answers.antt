@@ -1,5 +1,5 @@
 use Rattle.std.proofs.Common.{◌∙◌}
-use Rattle.bb_shop.proofs.Standing.{root_fits, root_bound-is}
+use Rattle.bb_shop.specs.TreeLawsHold.Standing.{root_fits, root_bound-is}
 use Rattle.bb_shop.proofs.shop.Shop.root_bound.Goals as goal
 
 pub bound_by-requires : goal.bound_by-requires
