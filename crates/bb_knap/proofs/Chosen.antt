@@ -11,6 +11,7 @@ use Rattle.bb_problem.specs.Tree.{total}
 use Rattle.bb_knap.specs.Plans.{item_at}
 use Rattle.bb_knap.specs.Order.{order_of}
 use Rattle.bb_knap.specs.Branching.{taken, taken_of, IsPlanOf}
+use Rattle.bb_knap.proofs.Sorting.{in_order, moved-in_order, rising-in_order}
 use Rattle.bb_knap.specs.TreeLawsHold.Ordered.{one_at, one_at-self}
 use Rattle.bb_knap.specs.TreeLawsHold.InOrder.{sum_below, total-permutation, total-order_below, weight_of-total, value_of-total}
 use Rattle.bb_knap.specs.TreeLawsHold.Taken.{total-taken-le}
@@ -93,13 +94,12 @@ total-plan-le : (i : Instance) (ds choice : List ℕ) → IsPermutation (taken_o
 total-plan-le i ds choice moved f =
     omega (arith, total-plan i ds choice moved f, total-taken-le f (order_of i.items) ds, total-order_below f i.items (length i.items))
 
--- sorted, it is a choice
-pub is_plan : (i : Instance) (ds choice : List ℕ) → IsPermutation (taken_of i ds) choice → IsSorted nat_cmp choice → IsPlanOf i ds choice
-is_plan i ds choice moved sorted =
-    let up : IsNonDecreasingBy (λ x. x) choice = IsNonDecreasingBy-from_sort (λ x. x) choice sorted in
+-- in order, it is a choice
+plan_in_order : (i : Instance) (ds choice : List ℕ) → IsPermutation (taken_of i ds) choice → ((j k : ℕ) → j ≤ k → k < length choice → get_or choice j 0 ≤ get_or choice k 0) → IsPlanOf i ds choice
+plan_in_order i ds choice moved up =
     let n = length i.items in
     record {
-      chosen = rise 0 n choice (λ j k le lt. up j k 0 le lt)
+      chosen = rise 0 n choice up
           (λ k. omega (arith, total-plan-le i ds choice moved (one_at k), sum_below-once k n))
           (λ k le. omega (arith, total-plan-le i ds choice moved (one_at k), sum_below-past k n le))
           (λ j lt. omega arith);
@@ -107,6 +107,15 @@ is_plan i ds choice moved sorted =
       weight = weight_of-total i.items choice ∙ total-plan i ds choice moved (λ k. (item_at i.items k).weight) ∙ sym (weight_of-total i.items (taken_of i ds));
       value = value_of-total i.items choice ∙ total-plan i ds choice moved (λ k. (item_at i.items k).value) ∙ sym (value_of-total i.items (taken_of i ds));
     }
+
+pub is_plan : (i : Instance) (ds choice : List ℕ) → IsPermutation (taken_of i ds) choice → IsSorted nat_cmp choice → IsPlanOf i ds choice
+is_plan i ds choice moved sorted =
+    let up : IsNonDecreasingBy (λ x. x) choice = IsNonDecreasingBy-from_sort (λ x. x) choice sorted in
+    plan_in_order i ds choice moved (λ j k le lt. up j k 0 le lt)
+
+-- decisions have a choice of just the items that they take
+pub some_plan : (i : Instance) (ds : List ℕ) → (choice : List ℕ) × IsPlanOf i ds choice
+some_plan i ds = (in_order (taken_of i ds), plan_in_order i ds (in_order (taken_of i ds)) (moved-in_order (taken_of i ds)) (rising-in_order (taken_of i ds)))
 
 -- numbers below n are below more
 pub AreNumbers-more : (low n m : ℕ) (ks : List ℕ) → n ≤ m → AreNumbers low n ks → AreNumbers low m ks

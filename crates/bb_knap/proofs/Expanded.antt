@@ -20,7 +20,7 @@ use Rattle.bb_knap.proofs.Prefixes.{at_place, value_of-order}
 abbrev pub next_of : Instance → List ℕ → ℕ
 next_of i name = get_or (order_of i.items) (length name) 0
 
-next_is : (i : Instance) (name : List ℕ) → length name < length i.items → rest_of i name ≡ next_of i name ∷ drop (length name + 1) (order_of i.items)
+pub next_is : (i : Instance) (name : List ℕ) → length name < length i.items → rest_of i name ≡ next_of i name ∷ drop (length name + 1) (order_of i.items)
 next_is i name inside = at_place (order_of i.items) (length name) (omega (arith, length-order_below i.items (length i.items), inside))
 
 choices-both : (items : List Item) (room k : ℕ) (ks : List ℕ) → (item_at items k).weight ≤ room → choices_at items room (k ∷ ks) ≡ 1 ∷ 0 ∷ []
@@ -44,12 +44,12 @@ children-left i node name s inside heavy =
     ∙ choices-left i.items (room_of i name) (next_of i name) (drop (length name + 1) (order_of i.items)) (omega (arith, s.room, heavy))
 
 -- what one decision more takes
-takes_next : (i : Instance) (name : List ℕ) → length name < length i.items → taken (rest_of i name) (1 ∷ []) ≡ next_of i name ∷ []
+pub takes_next : (i : Instance) (name : List ℕ) → length name < length i.items → taken (rest_of i name) (1 ∷ []) ≡ next_of i name ∷ []
 takes_next i name inside =
     ap (λ ks. taken ks (1 ∷ [])) (next_is i name inside) ∙ taken-taken (next_of i name) 0 (drop (length name + 1) (order_of i.items)) []
     ∙ ap (λ ks. next_of i name ∷ ks) (taken-none (drop (length name + 1) (order_of i.items)))
 
-leaves_next : (i : Instance) (name : List ℕ) → length name < length i.items → taken (rest_of i name) (0 ∷ []) ≡ []
+pub leaves_next : (i : Instance) (name : List ℕ) → length name < length i.items → taken (rest_of i name) (0 ∷ []) ≡ []
 leaves_next i name inside =
     ap (λ ks. taken ks (0 ∷ [])) (next_is i name inside) ∙ taken-left (next_of i name) (drop (length name + 1) (order_of i.items)) []
     ∙ taken-none (drop (length name + 1) (order_of i.items))
@@ -57,23 +57,26 @@ leaves_next i name inside =
 small_min : (n m : ℕ) → n ≤ total_limit → m ≡ min n 4294967295 → m ≡ n
 small_min n m le e = omega (arith, le, e)
 
+-- what the child that takes the next item is worth
+value_taking : (i : Instance) (node : Node) (name : List ℕ) → Stands i node name → length name < length i.items → value_of i.items (taken_of i (name ++ 1 ∷ [])) ≡ node.value + (item_at i.items (next_of i name)).value
+value_taking i node name s inside = omega (arith, value_of-more i name (1 ∷ []), ap (value_of i.items) (takes_next i name inside), s.value)
+
+pub small_taking : (i : Instance) (node : Node) (name : List ℕ) → IsInstance i → Stands i node name → length name < length i.items → node.value + (item_at i.items (next_of i name)).value ≤ total_limit
+small_taking i node name limits s inside =
+    omega (arith, value_taking i node name s inside, value_of-taken-le i.items (order_of i.items) (name ++ 1 ∷ []), value_of-order i.items, limits.values)
+
 -- the child that takes the next item
-pub stands_taking : (i : Instance) (node child : Node) (name : List ℕ) → IsInstance i → Stands i node name → length name < length i.items → (item_at i.items (next_of i name)).weight ≤ node.room
-    → child.decisions ≡ node.decisions ++ 1 ∷ [] → child.room ≡ node.room - (item_at i.items (next_of i name)).weight → child.value ≡ min (node.value + (item_at i.items (next_of i name)).value) 4294967295
+pub stands_taking : (i : Instance) (node child : Node) (name : List ℕ) → Stands i node name → length name < length i.items → (item_at i.items (next_of i name)).weight ≤ node.room
+    → child.decisions ≡ node.decisions ++ 1 ∷ [] → child.room ≡ node.room - (item_at i.items (next_of i name)).weight → child.value ≡ node.value + (item_at i.items (next_of i name)).value
     → Stands i child (name ++ 1 ∷ [])
-stands_taking i node child name limits s inside fits decisions room value =
+stands_taking i node child name s inside fits decisions room value =
     let weight_more = weight_of-more i name (1 ∷ []) in
-    let value_more = value_of-more i name (1 ∷ []) in
     let weight_next = ap (weight_of i.items) (takes_next i name inside) in
-    let value_next = ap (value_of i.items) (takes_next i name inside) in
-    let whole : value_of i.items (taken_of i (name ++ 1 ∷ [])) ≡ node.value + (item_at i.items (next_of i name)).value = omega (arith, value_more, value_next, s.value) in
-    let small : node.value + (item_at i.items (next_of i name)).value ≤ total_limit =
-    omega (arith, whole, value_of-taken-le i.items (order_of i.items) (name ++ 1 ∷ []), value_of-order i.items, limits.values) in
     record {
       decisions = decisions ∙ ap (λ ds. ds ++ 1 ∷ []) s.decisions;
       depth = omega (arith, length_push name 1, inside);
       room = omega (arith, weight_more, weight_next, room, fits, s.room);
-      value = small_min (node.value + (item_at i.items (next_of i name)).value) child.value small value ∙ sym whole;
+      value = value ∙ sym (value_taking i node name s inside);
     }
 
 -- the child that leaves it
@@ -113,7 +116,8 @@ pub both_stand : (i : Instance) (node taking leaving : Node) (name : List ℕ) (
     → StandBelow (Stands i) name nodes (children_of i name)
 both_stand i node taking leaving name nodes limits s inside fits are decisions room value left =
     rw (are, children-both i node name s inside fits) (
-      stands_taking i node taking name limits s inside fits decisions room value,
+      stands_taking i node taking name s inside fits decisions room
+          (small_min (node.value + (item_at i.items (next_of i name)).value) taking.value (small_taking i node name limits s inside) value),
       (stands_leaving i node leaving name s inside (ap (λ n. n.decisions) left) (ap (λ n. n.room) left) (ap (λ n. n.value) left), tt),
     )
 

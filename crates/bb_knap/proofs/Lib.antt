@@ -3,6 +3,8 @@ pub mod Totals
 pub mod FullWords
 pub mod Bits
 pub mod Prefixes
+pub mod Sorting
 pub mod Chosen
 pub mod Expanded
+pub mod Walks
 pub mod OneVerdict

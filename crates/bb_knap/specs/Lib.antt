@@ -6,4 +6,5 @@ pub mod Branching
 pub mod Decisions
 pub mod Sums
 pub mod OrderAndSums
+pub mod Walking
 pub mod TreeLawsHold

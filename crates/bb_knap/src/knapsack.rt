@@ -1,6 +1,6 @@
 //! The knapsack problem: its instance, and what is kept beside it.
 
-ghost use Rattle.std.specs.Prelude.{◌≡◌, ◌≤◌, drop, length, IfOk};
+ghost use Rattle.std.specs.Prelude.{◌≡◌, ◌-◌, ◌≤◌, drop, length, IfOk};
 ghost use Rattle.inst_text.specs.Limits.{capacity_limit};
 ghost use Rattle.inst_text.specs.Knapsack.{IsInstance, total_value};
 ghost use Rattle.bb_knap.specs.Plans.{IsChoiceOf, weight_of, value_of, cost_of};
@@ -143,6 +143,19 @@ impl Knapsack {
         ensures { result ≡ root_bound self.now }
     {
         self.dantzig(0, self.capacity())
+    }
+
+    /// The values of all items, but this one, and at most what the items from this place of the order on bring with
+    /// this room. O(log n).
+    pub(crate) fn bound_at(&self, from: usize, room: u64, value: u32) -> u32
+        requires from { from ≤ length self.now.items }
+        requires room { room ≤ capacity_limit }
+        ensures { result ≡ total_value self.now.items - value
+            - dantzig self.now.items room (drop from (order_of self.now.items)) }
+    {
+        self.total_value()
+            .saturating_sub(value)
+            .saturating_sub(self.dantzig(from, room))
     }
 
     /// Dantzig's bound of the items from this place of the order on, with this room: whole values while the items

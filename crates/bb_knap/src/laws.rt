@@ -3,7 +3,7 @@
 ghost use Rattle.std.specs.Prelude.{ℕ, ◌+◌, ◌≡◌, ◌≤◌, ◌↔◌, List};
 ghost use Rattle.inst_text.specs.Knapsack.{Instance, total_value};
 ghost use Rattle.bb_knap.specs.Plans.{IsChoiceOf, IsFeasible, IsBest, IsCheapest, value_of, cost_of};
-ghost use Rattle.bb_knap.specs.Branching.{root_bound};
+ghost use Rattle.bb_knap.specs.Branching.{root_bound, IsPlanOf};
 ghost use Rattle.bb_knap.specs.declared.verdict.KnapVerdict.{KnapVerdict};
 ghost use Rattle.bb_knap.specs.Verdicts.{IsVerdict};
 
@@ -16,6 +16,12 @@ pub fn value_and_cost_are_all()
 /// Law: the choices of greatest value are those of least cost.
 pub fn best_is_cheapest()
     ensures { (i : Instance) (choice : List ℕ) → IsBest i choice ↔ IsCheapest i choice }
+{}
+
+/// Law: decisions have a choice of just the items that they take.
+#[tactic(auto, using(crate::proofs::Chosen::some_plan))]
+pub fn decisions_have_plans()
+    ensures { (i : Instance) (decisions : List ℕ) → (choice : List ℕ) × IsPlanOf i decisions choice }
 {}
 
 /// Law: no feasible choice is worth more than Dantzig's bound of all items with the whole capacity

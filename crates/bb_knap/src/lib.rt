@@ -14,8 +14,13 @@ mod sums;
 #[cfg(test)]
 mod tests;
 mod verdict;
+mod walk;
 
 pub use knapsack::Knapsack;
-pub use laws::{best_is_cheapest, one_verdict, root_bound_is_bound, value_and_cost_are_all};
+pub use laws::{
+    best_is_cheapest, decisions_have_plans, one_verdict, root_bound_is_bound,
+    value_and_cost_are_all,
+};
 pub use node::KnapNode;
 pub use verdict::KnapVerdict;
+pub use walk::KnapWalk;

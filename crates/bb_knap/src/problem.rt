@@ -35,9 +35,7 @@ impl Problem for Knapsack {
     /// The sum of all values, but those of the taken items and Dantzig's bound of the rest. O(log n).
     fn bound(&self, node: &KnapNode) -> u32 {
         let depth = node.decisions().len().min(self.items().len());
-        self.total_value()
-            .saturating_sub(node.value())
-            .saturating_sub(self.dantzig(depth, node.room()))
+        self.bound_at(depth, node.room(), node.value())
     }
 
     /// The plan of a node that decides on all items, else the child that takes the next item, where it fits, and

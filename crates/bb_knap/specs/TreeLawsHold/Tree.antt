@@ -141,9 +141,12 @@ told_apart i name limits = told_apart_rest i.items (room_of i name) (rest_of i n
 pub rest-none : (i : Instance) (name : List ℕ) → length i.items ≤ length name → rest_of i name ≡ []
 rest-none i name le = drop_of_length-le (order_of i.items) (omega (arith, length-order_below i.items (length i.items), le))
 
-pub ends : (i : Instance) (name : List ℕ) → IsInstance i → length i.items ≤ length name → children_of i name ≡ []
+pub children-none : (i : Instance) (name : List ℕ) → length i.items ≤ length name → children_of i name ≡ []
 unfolding children_of
-ends i name limits le = ap (choices_at i.items (room_of i name)) (rest-none i name le) ∙ choices-none i.items (room_of i name)
+children-none i name le = ap (choices_at i.items (room_of i name)) (rest-none i name le) ∙ choices-none i.items (room_of i name)
+
+pub ends : (i : Instance) (name : List ℕ) → IsInstance i → length i.items ≤ length name → children_of i name ≡ []
+ends i name limits le = children-none i name le
 
 pub attained : (i : Instance) → IsInstance i → (choice : List ℕ) × IsFeasible i choice × (cost_of i choice ≡ least_cost i)
 attained i limits =

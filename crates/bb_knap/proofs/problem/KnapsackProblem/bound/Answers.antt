@@ -9,7 +9,7 @@ returns-clause-exact c = λ name s.
     let i = c.args.self.now in
     let depth : c.min-depth.result ≡ length name = omega (arith, c.min-depth.ensures, c.len.ensures.len, ap length c.decisions.ensures, ap length s.decisions, s.depth, ap length c.items.ensures.items) in
     let room : c.room.result ≡ room_of i name = omega (arith, c.room.ensures.room, s.room) in
-    let rest : c.dantzig.result ≡ dantzig i.items (room_of i name) (rest_of i name) =
-    c.dantzig.ensures ∙ ap (λ r. dantzig i.items r (drop c.min-depth.result (order_of i.items))) room
+    let rest : dantzig i.items c.room.result (drop c.min-depth.result (order_of i.items)) ≡ dantzig i.items (room_of i name) (rest_of i name) =
+    ap (λ r. dantzig i.items r (drop c.min-depth.result (order_of i.items))) room
     ∙ ap (λ d. dantzig i.items (room_of i name) (drop d (order_of i.items))) depth in
-    omega (arith, c.saturating_sub-2.ensures, c.saturating_sub.ensures, c.total_value.ensures, c.value.ensures, s.value, rest)
+    omega (arith, c.bound_at.ensures, c.value.ensures, s.value, rest)
