@@ -1,28 +1,28 @@
-//! Writes a knapsack of so many items (the second word), from a seed (the third; 1 where there is none), of a class that
-//! makes a search open many nodes (the first word):
+//! Writes a knapsack of so many items (the second word), of a class that makes a search open many nodes (the first word):
 //!
-//! - `correlated`: weights 1 to 1,000, each value its weight plus 100, a capacity of half the sum of weights;
-//! - `even`: even weights 2 to 1,000, each value its weight, and an odd capacity of about half their sum, which is thus
-//!   never reached.
+//! - `correlated`: weights 1 to 1,000 from a seed (the third word; 1 where there is none), each value its weight plus
+//!   100, and a capacity of half the sum of weights;
+//! - `equal`: weights and values 2, and an odd capacity of about half their sum, which no choice comes to.
 fn main() {
     let word = |at: usize| std::env::args().nth(at);
-    let even = match word(1).as_deref() {
-        Some("correlated") => false,
-        Some("even") => true,
-        _ => panic!("correlated or even"),
-    };
-    let items: u64 = word(2).map_or(40, |word| word.parse().expect("a number of items"));
-    let mut state = word(3).map_or(1u64, |word| word.parse().expect("a seed"));
+    let number = |at: usize, or: u64| word(at).map_or(or, |word| word.parse().expect("a number"));
+    let (items, mut state) = (number(2, 40), number(3, 1));
     let mut draw = |below: u64| {
         state ^= state << 13;
         state ^= state >> 7;
         state ^= state << 17;
         (state >> 16) % below
     };
-    let weights: Vec<u64> = (0..items).map(|_| if even { 2 + 2 * draw(500) } else { 1 + draw(1000) }).collect();
-    let half = weights.iter().sum::<u64>() / 2;
-    println!("{items} {}", if even { half | 1 } else { half });
-    for weight in weights {
-        println!("{weight} {}", if even { weight } else { weight + 100 });
+    let (capacity, items): (u64, Vec<(u64, u64)>) = match word(1).as_deref() {
+        Some("correlated") => {
+            let weights: Vec<u64> = (0..items).map(|_| 1 + draw(1000)).collect();
+            (weights.iter().sum::<u64>() / 2, weights.iter().map(|weight| (*weight, weight + 100)).collect())
+        }
+        Some("equal") => (items | 1, vec![(2, 2); items as usize]),
+        _ => panic!("correlated or equal"),
+    };
+    println!("{} {capacity}", items.len());
+    for (weight, value) in items {
+        println!("{weight} {value}");
     }
 }
