@@ -40,3 +40,15 @@ lane_limit = 16
 -- how many commands the lanes of a script have at most, all together
 abbrev pub command_limit : ℕ
 command_limit = 1048576
+
+-- the greatest key of an entry
+abbrev pub key_limit : ℕ
+key_limit = 67108863
+
+-- the greatest id of an entry
+abbrev pub id_limit : ℕ
+id_limit = 4194303
+
+-- the greatest number below which a key may be asked for
+abbrev pub below_limit : ℕ
+below_limit = 67108864

@@ -19,6 +19,15 @@ several read next (suc n) s rest = do
 abbrev pub with_line : {S A : Type 0} → ℕ → (S → List (List ℕ) → Result A Cause) → S → List (List ℕ) → Result A BadInput
 with_line line read s words = on_line line (read s words)
 
+-- Each line up to the end of the text, read in the state that the lines before it left.
+unfoldable pub every_line : {S A : Type 0} → (S → List (List ℕ) → Result A Cause) → (S → A → S)
+    → S → List Line → Result (List A) BadInput
+every_line read next s [] = Ok []
+every_line read next s (l ∷ ls) = do
+  x ← on_line l.number (read s l.words)
+  xs ← every_line read next (next s x) ls
+  Ok (x ∷ xs)
+
 -- Each line means the value at its place.
 abbrev pub EachLine : {A : Type 0} → (List (List ℕ) → A → Type 0) → List Line → List A → Type 0
 EachLine Means [] [] = Unit {0}

@@ -4,6 +4,7 @@
 mod knapsack;
 mod limits;
 mod plan;
+mod script;
 mod shop;
 #[cfg(test)]
 mod tests;
@@ -21,6 +22,7 @@ pub use plan::{
     read_plan_knapsack, read_plan_shop, shop_plan_texts_are_read, starts_are_read_behind,
     written_choices_are_read, written_starts_are_read,
 };
+pub use script::{Script, read_script, script_texts_are_read};
 pub use shop::{
     Jobs, Operation, Starts, next_shop, read_shop, shop_texts_are_read, write_starts,
     written_shops_are_read,

@@ -21,3 +21,9 @@ pub const STATED_LIMIT: u32 = u32::MAX;
 pub const LANE_LIMIT: u32 = 16;
 /// How many commands the lanes of a script have at most, all together.
 pub const COMMAND_LIMIT: u32 = 1_048_576;
+/// The greatest key of an entry.
+pub(crate) const KEY_LIMIT: u32 = 67_108_863;
+/// The greatest id of an entry.
+pub(crate) const ID_LIMIT: u32 = 4_194_303;
+/// The greatest number below which a key may be asked for.
+pub(crate) const BELOW_LIMIT: u32 = 67_108_864;
