@@ -1,11 +1,10 @@
 -- What is read as a script is spelled so and keeps the limits, and what is spelled so is read.
-use Rattle.std.proofs.Common.{◌≡◌, ℕ, ◌+◌, ◌≤◌, leb, true, cond, List, [], ◌∷◌, length, codes, Ok, Err, refl, sym, ap, subst, ◌∙◌, arith}
+use Rattle.std.proofs.Common.{◌≡◌, ℕ, ◌+◌, ◌≤◌, leb, cond, List, [], ◌∷◌, length, codes, Ok, Err, refl, sym, ap, subst, arith}
 use Rattle.std.specs.List.{AllByRecursion}
 use Rattle.std.proofs.lemmas.Bool.{leb-true, le-leb}
 use Rattle.std.proofs.lemmas.List.Sums.{sum_by-cons}
 use Rattle.pq_io.specs.Inputs.{longest_input, too_large, text_within}
 use Rattle.pq_io.specs.Lines.{Line, Text, text_of}
-use Rattle.pq_io.specs.Reading.{◌>>=◌}
 use Rattle.pq_io.proofs.Binds.{ok_is, bind_ok, guard_ok}
 use Rattle.pq_model.specs.declared.marks.Act.{Act}
 use Rattle.inst_text.specs.declared.script.lines.ScriptLine.{ScriptLine}

@@ -1,9 +1,9 @@
-use Rattle.std.proofs.Common.{◌≡◌, ◌∷◌, Ok, Err, sym, ap, length, ◌∙◌, arith}
+use Rattle.std.proofs.Common.{◌≡◌, Ok, sym, ap, length, arith}
 use Rattle.std.proofs.lemmas.List.{map-append}
 use Rattle.std.proofs.lemmas.Result.{err_from_is_err_and}
 use Rattle.pq_io.specs.Reading.{on_line}
 use Rattle.inst_text.specs.declared.script.lines.ScriptLine.TheVariants.{Command, NextLane}
-use Rattle.inst_text.specs.Script.{script_in, script_line_of}
+use Rattle.inst_text.specs.Script.{script_line_of}
 use Rattle.inst_text.proofs.EveryLine.{line_came, no_line}
 use Rattle.inst_text.proofs.ScriptLines.{line_allows}
 use Rattle.inst_text.proofs.ScriptLoop.{nothing_read, command_read, lane_read, line_faulty, lines_end}
