@@ -1,7 +1,7 @@
-//! The baseline of `pq solve shop`: the same dispatching, bound and best-first search in plain Rust, with std's
-//! `BinaryHeap` as the queue. A node is one box of numbers: the ready times of jobs and machines, each job's next
-//! step, and the dispatched jobs, four to a number. The word behind the name is the node limit; what goes to standard
-//! error is how many nodes were made.
+//! The baseline of `pq solve shop`: the same dispatching, branching, bound and best-first search in plain Rust, with
+//! std's `BinaryHeap` as the queue. A node is one box of numbers: the ready times of jobs and machines, each job's next
+//! step, and the dispatched jobs, four to a number. The first word is the node limit, and the second the branching,
+//! `dispatch` or `active`; what goes to standard error is how many nodes were made.
 use std::cmp::Reverse;
 use std::collections::BinaryHeap;
 use std::io::{self, Read};
@@ -70,6 +70,41 @@ impl Shop {
 
     fn bound(&self, node: &Node, loads: &mut [Load]) -> u32 {
         loads.fill(IDLE);
+        let mut most = self.finishes(node, |operation, head| {
+            let load = &mut loads[operation.machine];
+            load.head = load.head.min(head);
+            load.time += operation.time;
+            load.tail = load.tail.min(operation.tail);
+        });
+        for load in loads.iter().filter(|load| load.head != u32::MAX) {
+            most = most.max(load.head + load.time + load.tail);
+        }
+        most
+    }
+
+    /// The greatest bound of one machine, over all sets of its operations: the least head, the sum of the times and the
+    /// least tail. The sets that matter have all operations whose head and tail are not below two given ones.
+    fn active_bound(&self, node: &Node, rows: &mut [Vec<Load>]) -> u32 {
+        rows.iter_mut().for_each(Vec::clear);
+        let mut most = self.finishes(node, |&Operation { machine, time, tail }, head| {
+            let row = &mut rows[machine];
+            let at = row.iter().position(|load| load.tail < tail).unwrap_or(row.len());
+            row.insert(at, Load { head, time, tail });
+        });
+        for row in rows.iter() {
+            for &Load { head, .. } in row {
+                let mut sum = head;
+                for load in row.iter().filter(|load| load.head >= head) {
+                    sum += load.time;
+                    most = most.max(sum + load.tail);
+                }
+            }
+        }
+        most
+    }
+
+    /// Shows each operation that is left with its head. Gives the greatest finish of a job and ready time of a machine.
+    fn finishes(&self, node: &Node, mut show: impl FnMut(&Operation, u32)) -> u32 {
         let (ready, rest) = node.split_at(self.jobs);
         let (machines, steps) = rest.split_at(self.machines);
         let mut most = machines.iter().copied().max().unwrap_or(0);
@@ -77,18 +112,26 @@ impl Shop {
             let mut end = ready[job];
             for operation in &operations[steps[job] as usize..] {
                 let head = end.max(machines[operation.machine]);
-                let load = &mut loads[operation.machine];
-                load.head = load.head.min(head);
-                load.time += operation.time;
-                load.tail = load.tail.min(operation.tail);
+                show(operation, head);
                 end = head + operation.time;
             }
             most = most.max(end);
         }
-        for load in loads.iter().filter(|load| load.head != u32::MAX) {
-            most = most.max(load.head + load.time + load.tail);
-        }
         most
+    }
+
+    /// A job's next operation, with its start.
+    fn next(&self, node: &Node, job: usize) -> Option<(Operation, u32)> {
+        let step = self.step(node, job);
+        let operation = *self.operations[job * self.machines..][..self.machines].get(step)?;
+        Some((operation, node[job].max(node[self.jobs + operation.machine])))
+    }
+
+    /// The job whose next operation ends first, with its machine and that end.
+    fn first_end(&self, node: &Node) -> Option<(u32, usize, usize)> {
+        (0..self.jobs)
+            .filter_map(|job| self.next(node, job).map(|(next, start)| (start + next.time, job, next.machine)))
+            .min()
     }
 
     fn depth(&self, node: &Node) -> usize {
@@ -109,13 +152,16 @@ impl Shop {
 
 fn main() -> io::Result<()> {
     let limit: usize = std::env::args().nth(1).map_or(usize::MAX, |word| word.parse().expect("a node limit"));
+    let active = std::env::args().nth(2).is_some_and(|word| word == "active");
     let mut text = String::new();
     io::stdin().lock().read_to_string(&mut text)?;
     let shop = Shop::new(&text);
-    let mut loads = vec![IDLE; shop.machines];
+    let (mut loads, mut rows) = (vec![IDLE; shop.machines], vec![Vec::new(); shop.machines]);
+    let mut bound_of =
+        |node: &Node| if active { shop.active_bound(node, &mut rows) } else { shop.bound(node, &mut loads) };
     let root = shop.root();
     let mut queue = BinaryHeap::new();
-    queue.push(Reverse((shop.bound(&root, &mut loads), 0usize)));
+    queue.push(Reverse((bound_of(&root), 0usize)));
     let mut store = vec![Some(root)];
     let mut kept: Vec<(u32, Node)> = Vec::new();
     let mut best: Option<(u32, Node)> = None;
@@ -131,13 +177,17 @@ fn main() -> io::Result<()> {
             best = Some((makespan, node));
             continue;
         }
+        let first = if active { shop.first_end(&node) } else { None };
         for job in 0..shop.jobs {
-            if shop.step(&node, job) == shop.machines {
+            let Some((next, start)) = shop.next(&node, job) else {
+                continue;
+            };
+            if first.is_some_and(|(end, j, machine)| job != j && (next.machine != machine || start >= end)) {
                 continue;
             }
             let mut child = node.clone();
             shop.dispatch(&mut child, job, depth);
-            let bound = shop.bound(&child, &mut loads);
+            let bound = bound_of(&child);
             if bound < cost {
                 kept.push((bound, child));
             }
