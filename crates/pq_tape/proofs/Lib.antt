@@ -1,4 +1,4 @@
-pub mod Entries
+-- What is shown of tapes and of texts of histories.
 pub mod Pending
 pub mod LineParts
 pub mod HistoryLines

@@ -10,6 +10,7 @@ use Rattle.pq_io.proofs.Taken.{line_taken}
 use Rattle.pq_model.specs.declared.marks.Mark.{Mark}
 use Rattle.pq_tape.specs.declared.history.lines.HistoryLine.{HistoryLine}
 use Rattle.pq_tape.specs.declared.history.lines.HistoryLine.TheVariants.{Marked, Ends}
+use Rattle.pq_tape.specs.Limits.{max_marks}
 use Rattle.pq_tape.specs.HistoryReading.{line_of, with_line, marks_in}
 use Rattle.pq_tape.proofs.HistoryLines.{marked_taken}
 
@@ -36,7 +37,7 @@ line_fewer place seats text after x e =
     omega (arith, n)
 
 -- a mark was read, so there may be one more
-pub mark_counts : (place seats : ℕ) (text after : Text) (m : Mark) → line_at (line_of place seats) text ≡ Ok (record { value = Marked m; rest = after }) → place < 1048576
+pub mark_counts : (place seats : ℕ) (text after : Text) (m : Mark) → line_at (line_of place seats) text ≡ Ok (record { value = Marked m; rest = after }) → place < max_marks
 mark_counts place seats text after m e =
     let t = line_taken (line_of place seats) text (record { value = Marked m; rest = after }) e in
     (marked_taken place seats t.line.words m t.value).few

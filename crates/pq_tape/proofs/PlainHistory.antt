@@ -10,15 +10,19 @@ use Rattle.pq_io.specs.Writing.{words_text, lines_text, lines_from, is_plain, Is
 use Rattle.pq_io.proofs.Plain.{text_again, decimal_plain, decimal_digits}
 use Rattle.pq_words.specs.declared.entries.Entry.{Entry}
 use Rattle.pq_model.specs.declared.marks.Act.{Act}
-use Rattle.pq_model.specs.declared.marks.Act.TheVariants.{Insert, Remove}
+use Rattle.pq_model.specs.declared.marks.Act.TheVariants.{Insert, Remove, RemoveBelow}
 use Rattle.pq_model.specs.declared.marks.Reply.{Reply}
-use Rattle.pq_model.specs.declared.marks.Reply.TheVariants.{Done, Got, Empty, Full}
+use Rattle.pq_model.specs.declared.marks.Reply.TheVariants.{Done, Got, Empty, Full, Above}
 use Rattle.pq_model.specs.declared.marks.Mark.{Mark}
+use Rattle.pq_words.specs.Limits.{key_limit}
+use Rattle.pq_model.specs.Limits.{max_seats, max_capacity}
 use Rattle.pq_model.specs.History.{IsSeat}
+use Rattle.pq_tape.specs.Limits.{max_marks}
 use Rattle.pq_tape.specs.declared.history.Head.{Head}
+use Rattle.pq_tape.specs.HistoryText.{insert_words, got_words, below_got_words}
 use Rattle.pq_tape.specs.HistoryText.{Recorded, HasLine, IsWithinLimits, call_words, mark_words, marks_lines, head_words, left_words, history_lines, history_text}
 use Rattle.pq_tape.specs.HistoryReading.{history_of}
-use Rattle.pq_tape.specs.HistorySpelling.{SpellsCall, SpellsMark, SpellsHead, SpellMarks, SpellHistory, IsHistoryText}
+use Rattle.pq_tape.specs.HistorySpelling.{SpellsEntry, SpellsCall, SpellsMark, SpellsHead, SpellMarks, SpellHistory, IsHistoryText}
 use Rattle.pq_tape.proofs.HistoryTexts.{history_is_read}
 
 -- words that can be written
@@ -47,10 +51,17 @@ call_plain (Insert e) Done h = (plain_word 43 [] refl, (plain_number e.key (omeg
 call_plain (Insert e) Full h = (plain_word 43 [] refl, (plain_number e.key (omega (arith, e.key_fits)), (plain_number e.id (omega (arith, e.id_fits)), (plain_word 102 (117 ∷ 108 ∷ 108 ∷ []) refl, tt))))
 call_plain (Insert e) (Got x) h = absurd h
 call_plain (Insert e) Empty h = absurd h
+call_plain (Insert e) Above h = absurd h
 call_plain Remove (Got e) h = (plain_word 45 [] refl, (plain_word 103 (111 ∷ 116 ∷ []) refl, (plain_number e.key (omega (arith, e.key_fits)), (plain_number e.id (omega (arith, e.id_fits)), tt))))
 call_plain Remove Empty h = (plain_word 45 [] refl, (plain_word 101 (109 ∷ 112 ∷ 116 ∷ 121 ∷ []) refl, tt))
 call_plain Remove Done h = absurd h
 call_plain Remove Full h = absurd h
+call_plain Remove Above h = absurd h
+call_plain (RemoveBelow limit) (Got e) h = (plain_word 60 [] refl, (plain_number limit (omega arith), (plain_word 103 (111 ∷ 116 ∷ []) refl, (plain_number e.key (omega (arith, e.key_fits)), (plain_number e.id (omega (arith, e.id_fits)), tt)))))
+call_plain (RemoveBelow limit) Empty h = (plain_word 60 [] refl, (plain_number limit (omega arith), (plain_word 101 (109 ∷ 112 ∷ 116 ∷ 121 ∷ []) refl, tt)))
+call_plain (RemoveBelow limit) Above h = (plain_word 60 [] refl, (plain_number limit (omega arith), (plain_word 97 (98 ∷ 111 ∷ 118 ∷ 101 ∷ []) refl, tt)))
+call_plain (RemoveBelow limit) Done h = absurd h
+call_plain (RemoveBelow limit) Full h = absurd h
 
 mark_plain : (place : ℕ) (m : Mark) → place < 2 ^ 64 → m.seat < 2 ^ 64 → HasLine m.act m.reply → IsPlainLine (mark_words place m)
 mark_plain place m p q h = ((plain_number place p, (plain_number m.seat q, call_plain m.act m.reply h)), (decimal_plain place p).1)
@@ -65,15 +76,25 @@ head_plain head p q = ((plain_word 115 (101 ∷ 97 ∷ 116 ∷ 115 ∷ []) refl,
 
 -- words that spell what they were written for
 
+entry_spelled : (shape : List ℕ → List ℕ → List (List ℕ)) (e : Entry) → SpellsEntry shape (shape (decimal e.key) (decimal e.id)) e
+entry_spelled shape e = record { key = decimal e.key; id = decimal e.id; words_are = refl; spells_key = decimal_digits e.key (omega (arith, e.key_fits)); spells_id = decimal_digits e.id (omega (arith, e.id_fits)) }
+
 call_spelled : (act : Act) (reply : Reply) → HasLine act reply → SpellsCall (call_words act reply) act reply
-call_spelled (Insert e) Done h = record { key = decimal e.key; id = decimal e.id; words_are = refl; spells_key = decimal_digits e.key (omega (arith, e.key_fits)); spells_id = decimal_digits e.id (omega (arith, e.id_fits)) }
-call_spelled (Insert e) Full h = record { key = decimal e.key; id = decimal e.id; words_are = refl; spells_key = decimal_digits e.key (omega (arith, e.key_fits)); spells_id = decimal_digits e.id (omega (arith, e.id_fits)) }
+call_spelled (Insert e) Done h = entry_spelled (insert_words (codes "done")) e
+call_spelled (Insert e) Full h = entry_spelled (insert_words (codes "full")) e
 call_spelled (Insert e) (Got x) h = absurd h
 call_spelled (Insert e) Empty h = absurd h
-call_spelled Remove (Got e) h = record { key = decimal e.key; id = decimal e.id; words_are = refl; spells_key = decimal_digits e.key (omega (arith, e.key_fits)); spells_id = decimal_digits e.id (omega (arith, e.id_fits)) }
+call_spelled (Insert e) Above h = absurd h
+call_spelled Remove (Got e) h = entry_spelled got_words e
 call_spelled Remove Empty h = refl
 call_spelled Remove Done h = absurd h
 call_spelled Remove Full h = absurd h
+call_spelled Remove Above h = absurd h
+call_spelled (RemoveBelow limit) (Got e) h = record { number = decimal limit; spells_limit = decimal_digits limit (omega arith); behind = entry_spelled (below_got_words (decimal limit)) e }
+call_spelled (RemoveBelow limit) Empty h = record { number = decimal limit; spells_limit = decimal_digits limit (omega arith); behind = refl }
+call_spelled (RemoveBelow limit) Above h = record { number = decimal limit; spells_limit = decimal_digits limit (omega arith); behind = refl }
+call_spelled (RemoveBelow limit) Done h = absurd h
+call_spelled (RemoveBelow limit) Full h = absurd h
 
 mark_spelled : (place : ℕ) (m : Mark) → place < 2 ^ 64 → m.seat < 2 ^ 64 → HasLine m.act m.reply → SpellsMark place (mark_words place m) m
 mark_spelled place m p q h = record {
@@ -101,22 +122,32 @@ entry_length e =
     let i : length (decimal e.id) ≤ 7 = short 7 e.id (omega arith) (omega (arith, e.id_fits)) (omega (arith, e.id_fits)) in
     omega arith
 
-insert_length : (e : Entry) (a b c d : ℕ) → length (words_text (codes "+" ∷ decimal e.key ∷ decimal e.id ∷ (a ∷ b ∷ c ∷ d ∷ []) ∷ [])) ≤ 23
+insert_length : (e : Entry) (a b c d : ℕ) → length (words_text (codes "+" ∷ decimal e.key ∷ decimal e.id ∷ (a ∷ b ∷ c ∷ d ∷ []) ∷ [])) ≤ 32
 insert_length e a b c d =
     let answer : List ℕ = a ∷ b ∷ c ∷ d ∷ [] in
     omega (arith, entry_length e, length-append (decimal e.key) (32 ∷ (decimal e.id ++ 32 ∷ answer)), length-append (decimal e.id) (32 ∷ answer))
 
-call_length : (act : Act) (reply : Reply) → HasLine act reply → length (words_text (call_words act reply)) ≤ 23
+limit_length : (limit : ℕ) → limit ≤ key_limit → length (decimal limit) ≤ 8
+limit_length limit h = short 8 limit (omega arith) (omega arith) (omega arith)
+
+call_length : (act : Act) (reply : Reply) → HasLine act reply → length (words_text (call_words act reply)) ≤ 32
 call_length (Insert e) Done h = insert_length e 100 111 110 101
 call_length (Insert e) Full h = insert_length e 102 117 108 108
 call_length (Insert e) (Got x) h = absurd h
 call_length (Insert e) Empty h = absurd h
+call_length (Insert e) Above h = absurd h
 call_length Remove (Got e) h = omega (arith, entry_length e, length-append (decimal e.key) (32 ∷ decimal e.id))
 call_length Remove Empty h = omega arith
 call_length Remove Done h = absurd h
 call_length Remove Full h = absurd h
+call_length Remove Above h = absurd h
+call_length (RemoveBelow limit) (Got e) h = omega (arith, limit_length limit h, entry_length e, length-append (decimal limit) (32 ∷ 103 ∷ 111 ∷ 116 ∷ 32 ∷ (decimal e.key ++ 32 ∷ decimal e.id)), length-append (decimal e.key) (32 ∷ decimal e.id))
+call_length (RemoveBelow limit) Empty h = omega (arith, limit_length limit h, length-append (decimal limit) (32 ∷ codes "empty"))
+call_length (RemoveBelow limit) Above h = omega (arith, limit_length limit h, length-append (decimal limit) (32 ∷ codes "above"))
+call_length (RemoveBelow limit) Done h = absurd h
+call_length (RemoveBelow limit) Full h = absurd h
 
-mark_length : (place : ℕ) (m : Mark) → place ≤ 1048576 → m.seat ≤ 16 → HasLine m.act m.reply → length (words_text (mark_words place m)) ≤ 34
+mark_length : (place : ℕ) (m : Mark) → place ≤ max_marks → m.seat ≤ max_seats → HasLine m.act m.reply → length (words_text (mark_words place m)) ≤ 43
 mark_length place m p q h =
     let a : length (decimal place) ≤ 7 = short 7 place (omega arith) (omega arith) (omega arith) in
     let b : length (decimal m.seat) ≤ 2 = short 2 m.seat (omega arith) (omega arith) (omega arith) in
@@ -127,12 +158,12 @@ mark_length place m p q h =
 abbrev AreGood : ℕ → List Mark → Type 0
 AreGood seats ms = AllByRecursion (λ (x : Mark). IsSeat seats x.seat) ms × AllByRecursion (λ (x : Mark). HasLine x.act x.reply) ms
 
-marks_plain : (seats place : ℕ) (ms : List Mark) (left : ℕ) → seats ≤ 16 → AreGood seats ms → length ms + place ≤ 1048576 → left ≤ 1048576 → AllByRecursion IsPlainLine (marks_lines place ms ++ left_words left ∷ [])
+marks_plain : (seats place : ℕ) (ms : List Mark) (left : ℕ) → seats ≤ max_seats → AreGood seats ms → length ms + place ≤ max_marks → left ≤ max_capacity → AllByRecursion IsPlainLine (marks_lines place ms ++ left_words left ∷ [])
 marks_plain seats place [] left s good count le = (left_plain left (omega arith), tt)
 marks_plain seats place (m ∷ ms) left s good count le =
     (mark_plain place m (omega arith) (omega (arith, good.0.0)) good.1.0, marks_plain seats (place + 1) ms left s (good.0.1, good.1.1) (omega arith) le)
 
-marks_spelled : (n seats place : ℕ) (ms : List Mark) (left : ℕ) → seats ≤ 16 → AreGood seats ms → length ms + place ≤ 1048576 → left ≤ 1048576
+marks_spelled : (n seats place : ℕ) (ms : List Mark) (left : ℕ) → seats ≤ max_seats → AreGood seats ms → length ms + place ≤ max_marks → left ≤ max_capacity
     → SpellMarks place (lines_from n (marks_lines place ms ++ left_words left ∷ [])) ms left
 marks_spelled n seats place [] left s good count le = record { number = decimal left; words_are = refl; spells = decimal_digits left (omega arith) }
 marks_spelled n seats place (m ∷ ms) left s good count le =
@@ -141,13 +172,13 @@ marks_spelled n seats place (m ∷ ms) left s good count le =
 line_length : (l : List (List ℕ)) (ls : List (List (List ℕ))) → length (lines_text (l ∷ ls)) ≡ length (words_text l) + 1 + length (lines_text ls)
 line_length l ls = omega (arith, length-append (words_text l) (10 ∷ lines_text ls))
 
-left_length : (left : ℕ) → left ≤ 1048576 → length (words_text (left_words left)) ≤ 12
+left_length : (left : ℕ) → left ≤ max_capacity → length (words_text (left_words left)) ≤ 12
 left_length left le =
     let a : length (decimal left) ≤ 7 = short 7 left (omega arith) (omega arith) (omega arith) in
     omega arith
 
-marks_length : (seats place : ℕ) (ms : List Mark) (left : ℕ) → seats ≤ 16 → AreGood seats ms → length ms + place ≤ 1048576 → left ≤ 1048576
-    → length (lines_text (marks_lines place ms ++ left_words left ∷ [])) ≤ 35 * length ms + 13
+marks_length : (seats place : ℕ) (ms : List Mark) (left : ℕ) → seats ≤ max_seats → AreGood seats ms → length ms + place ≤ max_marks → left ≤ max_capacity
+    → length (lines_text (marks_lines place ms ++ left_words left ∷ [])) ≤ 44 * length ms + 13
 marks_length seats place [] left s good count le = omega (arith, line_length (left_words left) [], left_length left le)
 marks_length seats place (m ∷ ms) left s good count le =
     omega (
@@ -159,7 +190,7 @@ marks_length seats place (m ∷ ms) left s good count le =
 
 -- the history
 
-head_length : (head : Head) → head.seats ≤ 16 → head.capacity ≤ 1048576 → length (words_text (head_words head)) ≤ 25
+head_length : (head : Head) → head.seats ≤ max_seats → head.capacity ≤ max_capacity → length (words_text (head_words head)) ≤ 25
 head_length head p q =
     let a : length (decimal head.seats) ≤ 2 = short 2 head.seats (omega arith) (omega arith) (omega arith) in
     let b : length (decimal head.capacity) ≤ 7 = short 7 head.capacity (omega arith) (omega arith) (omega arith) in
@@ -167,10 +198,10 @@ head_length head p q =
 
 plain_is_text : (h : Recorded) → IsWithinLimits h → IsHistoryText (history_text h.head h.marks h.left) h
 plain_is_text h limits =
-    let s : h.head.seats ≤ 16 = limits.seats.1 in
-    let k : h.head.capacity ≤ 1048576 = limits.capacity.1 in
+    let s : h.head.seats ≤ max_seats = limits.seats.1 in
+    let k : h.head.capacity ≤ max_capacity = limits.capacity.1 in
     let good : AreGood h.head.seats h.marks = (recursion_from_All (λ (x : Mark). IsSeat h.head.seats x.seat) h.marks limits.seated, recursion_from_All (λ (x : Mark). HasLine x.act x.reply) h.marks limits.answered) in
-    let count : length h.marks + 0 ≤ 1048576 = omega (arith, limits.count) in
+    let count : length h.marks + 0 ≤ max_marks = omega (arith, limits.count) in
     let tail : List (List (List ℕ)) = marks_lines 0 h.marks ++ left_words h.left ∷ [] in
     let same : (text_of (history_text h.head h.marks h.left)).lines ≡ lines_from 1 (history_lines h.head h.marks h.left) =
     ap (λ (t : Text). t.lines) (text_again 1 (history_lines h.head h.marks h.left) (head_plain h.head (omega arith) (omega arith), marks_plain h.head.seats 0 h.marks h.left s good count limits.left)) in

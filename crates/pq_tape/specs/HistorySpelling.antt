@@ -1,15 +1,17 @@
 -- Which lines of words spell which history: one case for each kind of line.
 use Rattle.std.specs.Prelude.{◌≡◌, ℕ, ◌+◌, ◌≤◌, List, [], ◌∷◌, length, codes}
 use Rattle.pq_io.specs.Lines.{Line, text_of}
+use Rattle.pq_io.specs.Inputs.{longest_input}
 use Rattle.pq_io.specs.Reading.{Spells}
 use Rattle.pq_words.specs.declared.entries.Entry.{Entry}
 use Rattle.pq_model.specs.declared.marks.Act.{Act}
-use Rattle.pq_model.specs.declared.marks.Act.TheVariants.{Insert, Remove}
+use Rattle.pq_model.specs.declared.marks.Act.TheVariants.{Insert, Remove, RemoveBelow}
 use Rattle.pq_model.specs.declared.marks.Reply.{Reply}
-use Rattle.pq_model.specs.declared.marks.Reply.TheVariants.{Done, Got, Empty, Full}
+use Rattle.pq_model.specs.declared.marks.Reply.TheVariants.{Done, Got, Empty, Full, Above}
 use Rattle.pq_model.specs.declared.marks.Mark.{Mark}
 use Rattle.pq_tape.specs.declared.history.Head.{Head}
-use Rattle.pq_tape.specs.HistoryText.{Recorded, IsWithinLimits, insert_words, got_words, empty_words}
+use Rattle.pq_tape.specs.HistoryText.{Recorded, IsWithinLimits}
+use Rattle.pq_tape.specs.HistoryText.{insert_words, got_words, empty_words, below_got_words, below_words}
 
 -- The words are these, with two words that spell the key and the id of the entry.
 pub record SpellsEntry (shape : List ℕ → List ℕ → List (List ℕ)) (words : List (List ℕ)) (e : Entry) : Type 0 where
@@ -19,12 +21,22 @@ pub record SpellsEntry (shape : List ℕ → List ℕ → List (List ℕ)) (word
   pub spells_key : Spells key e.key
   pub spells_id : Spells id e.id
 
--- What stands behind the seat: `+ key id done`, `+ key id full`, `- got key id` or `- empty`.
+-- A word spells the limit, and with it the words are as this fact has them.
+pub record SpellsLimit (limit : ℕ) (Behind : List ℕ → Type 0) : Type 0 where
+  pub number : List ℕ
+  pub spells_limit : Spells number limit
+  pub behind : Behind number
+
+-- What stands behind the seat: `+ key id done`, `+ key id full`, `- got key id`, `- empty`, `< limit got key id`,
+-- `< limit empty` or `< limit above`.
 abbrev pub SpellsCall : List (List ℕ) → Act → Reply → Type 0
 SpellsCall words (Insert e) Done = SpellsEntry (insert_words (codes "done")) words e
 SpellsCall words (Insert e) Full = SpellsEntry (insert_words (codes "full")) words e
 SpellsCall words Remove (Got e) = SpellsEntry got_words words e
 SpellsCall words Remove Empty = words ≡ empty_words
+SpellsCall words (RemoveBelow limit) (Got e) = SpellsLimit limit (λ number. SpellsEntry (below_got_words number) words e)
+SpellsCall words (RemoveBelow limit) Empty = SpellsLimit limit (λ number. words ≡ below_words (codes "empty") number)
+SpellsCall words (RemoveBelow limit) Above = SpellsLimit limit (λ number. words ≡ below_words (codes "above") number)
 SpellsCall words _ _ = ⊥
 
 -- The line of a mark: its place, its seat, and its call.
@@ -68,6 +80,6 @@ SpellHistory (l ∷ ls) h = SpellsHead l.words h.head × SpellMarks 0 ls h.marks
 
 -- A text of this history: its lines spell it, it keeps the limits, and the text is not too long.
 pub record IsHistoryText (bytes : List ℕ) (h : Recorded) : Type 0 where
-  pub size : length bytes ≤ 67108864
+  pub size : length bytes ≤ longest_input
   pub lines : SpellHistory (text_of bytes).lines h
   pub limits : IsWithinLimits h

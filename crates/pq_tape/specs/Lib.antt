@@ -1,4 +1,5 @@
-pub mod Entries
+-- What tapes and texts of histories mean.
+pub mod Limits
 pub mod HistoryText
 pub mod HistoryReading
 pub mod HistorySpelling

@@ -1,4 +1,4 @@
--- A text on its way to a sink: a front of it is written, what comes next is held back, and the rest is still to come.
+-- A text on its way to a sink: a prefix of it is written, what comes next is held back, and the rest is still to come.
 use Rattle.std.specs.Prelude.{◌≡◌, ℕ, List, ◌++◌, Option, Some, IfSome}
 
 -- after what stood in the sink before, all of the whole was written that is not held back or still to come
@@ -9,4 +9,6 @@ pub record Pending (held rest whole : List ℕ) (now : Option (List ℕ)) (befor
 
 -- whatever the text was, it is still on its way
 abbrev pub IsStillPending : Option (List ℕ) → List ℕ → Option (List ℕ) → List ℕ → Type 0
-IsStillPending was held_then now held_now = (first : Option (List ℕ)) (rest whole : List ℕ) → IfSome first (λ before. Pending held_then rest whole was before) → IfSome first (λ before. Pending held_now rest whole now before)
+IsStillPending was held_then now held_now = (first : Option (List ℕ)) (rest whole : List ℕ)
+    → IfSome first (λ before. Pending held_then rest whole was before)
+    → IfSome first (λ before. Pending held_now rest whole now before)

@@ -24,7 +24,8 @@ pub record IsComplete (tapes : List Taped) : Type 0 where
 -- The history has as many marks as there are calls on the tapes, and each call is the mark at its place.
 pub record IsByPlace (tapes : List Taped) (history : List Mark) : Type 0 where
   pub count : length history ≡ length (places tapes)
-  pub placed : All (λ (t : Taped). All (λ (c : Call). slice_get history c.place ≡ Some (mark t.lane.number c.act c.reply)) t.lane.calls) tapes
+  pub placed : All (λ (t : Taped). All
+      (λ (c : Call). slice_get history c.place ≡ Some (mark t.lane.number c.act c.reply)) t.lane.calls) tapes
 
 -- the marks after each of these calls of a seat is put at its place
 abbrev pub with_calls : ℕ → List Call → List Mark → List Mark

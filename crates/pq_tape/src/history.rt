@@ -1,9 +1,11 @@
+//! A history as a text records it.
 mod laws;
 mod lines;
 mod reading;
 mod writing;
 
 pub use laws::{history_texts_are_read, written_histories_are_read};
+pub use lines::MAX_MARKS;
 use pq_model::Mark;
 pub use reading::read_history;
 use std::marker::Model;
@@ -12,9 +14,9 @@ pub use writing::write_history;
 /// For how many seats and with which capacity a history was made.
 #[derive(Clone, Copy, Debug, PartialEq, Eq)]
 pub struct Head {
-    /// 1 to 16 in a text.
+    /// 1 to `MAX_SEATS` in a text.
     pub seats: u32,
-    /// 1 to 1,048,576 in a text. There may be more seats than this.
+    /// 1 to `MAX_CAPACITY` in a text. There may be more seats than this.
     pub capacity: u32,
 }
 
@@ -23,9 +25,9 @@ pub struct Head {
 #[derive(Debug, Drop)]
 pub struct History {
     pub head: Head,
-    /// The marks in the order of their places; at most 1,048,576 in a text.
+    /// The marks in the order of their places; at most `MAX_MARKS` in a text.
     pub marks: Vec<Mark>,
-    /// How many entries are said to be left at the end, 0 to 1,048,576 in a text. Whether it is so, an
+    /// How many entries are said to be left at the end, 0 to `MAX_CAPACITY` in a text. Whether it is so, an
     /// audit says.
     pub left: u32,
 }

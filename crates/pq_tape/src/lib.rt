@@ -6,6 +6,7 @@ mod history;
 mod tapes;
 
 pub use history::{
-    Head, History, history_texts_are_read, read_history, write_history, written_histories_are_read,
+    Head, History, MAX_MARKS, history_texts_are_read, read_history, write_history,
+    written_histories_are_read,
 };
 pub use tapes::{Tape, merge};

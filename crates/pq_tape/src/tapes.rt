@@ -1,3 +1,4 @@
+//! The calls of a seat on a tape.
 ghost use Rattle.std.specs.Prelude.{◌≡◌, ◌==◌, ◌<◌, ◌++◌, ◌∷◌, [], length, IsOk, IfOk, OnOk, OnErr};
 ghost use Rattle.pq_model.specs.Passes.{call, lane};
 
@@ -50,7 +51,8 @@ impl Tape {
     ///
     /// On `NoMemory` the tape is as it was. A tape of 4,294,967,295 calls takes no more, and says so too.
     pub fn add(&mut self, place: u32, act: Act, reply: Reply) -> Result<(), NoMemory>
-        ensures added { OnOk result (self.new.lane ≡ lane self.old.lane.number (self.old.lane.calls ++ call place act reply ∷ [])) }
+        ensures added { let calls = self.old.lane.calls ++ call place act reply ∷ [] in
+            OnOk result (self.new.lane ≡ lane self.old.lane.number calls) }
         ensures sure { length self.old.lane.calls < self.old.room → IsOk result }
         ensures room { self.new.room ≡ self.old.room }
         ensures kept { OnErr result (self.new ≡ self.old) }

@@ -1,14 +1,16 @@
-ghost use Rattle.std.specs.Prelude.{◌≡◌, ◌<◌, ◌≤◌, ◌^◌};
-ghost use Rattle.pq_io.specs.Reading.{Leaves};
-ghost use Rattle.pq_tape.specs.HistoryReading.{head_of, entry_at, answer_of, insert_of, got_of, empty_of, remove_of, mark_of, placed_of, ends_of, line_of};
+//! The lines of a text of a history, read.
+ghost use Rattle.std.specs.Prelude.{◌≡◌, ◌≤◌};
+ghost use Rattle.pq_tape.specs.Limits.{max_marks};
+ghost use Rattle.pq_tape.specs.HistoryReading.{head_of, answer_of, insert_of, got_of, bare_of, removed_of, remove_of};
+ghost use Rattle.pq_tape.specs.HistoryReading.{limited_of, below_of, call_of, mark_of, placed_of, ends_of, line_of};
 
 use crate::history::Head;
 use pq_io::{Cause, WordReader, digits};
-use pq_model::{Act, Mark, Reply};
-use pq_words::Entry;
+use pq_model::{Act, MAX_CAPACITY, MAX_SEATS, Mark, Reply, read_entry};
+use pq_words::KEY_LIMIT;
 
 /// The most marks that a text may have.
-pub(crate) const MARKS_LIMIT: usize = 1_048_576;
+pub const MAX_MARKS: usize = 1_048_576;
 
 /// A line of a text of a history, behind the first.
 #[derive(Clone, Copy, Debug)]
@@ -25,9 +27,9 @@ pub(crate) fn head(words: &mut WordReader<'_>) -> Result<Head, Cause>
     ensures { result ≡ head_of words.old.words }
 {
     words.fixed(b"seats")?;
-    let seats = words.number(1, 16)?;
+    let seats = words.number(1, MAX_SEATS as u64)?;
     words.fixed(b"capacity")?;
-    let capacity = words.number(1, 1_048_576)?;
+    let capacity = words.number(1, MAX_CAPACITY as u64)?;
     words.finish()?;
     Ok(Head {
         seats: seats as u32,
@@ -35,20 +37,7 @@ pub(crate) fn head(words: &mut WordReader<'_>) -> Result<Head, Cause>
     })
 }
 
-/// A key and an id.
-#[tactic(auto, unfolding(crate::specs::HistoryReading::entry_at))]
-fn entry(words: &mut WordReader<'_>) -> Result<Entry, Cause>
-    ensures { Leaves (λ e. e) result words.new.words (entry_at words.old.words) }
-{
-    let key = words.number(0, 67_108_863)?;
-    let id = words.number(0, 4_194_303)?;
-    Ok(Entry {
-        key: key as u32,
-        id: id as u32,
-    })
-}
-
-/// How an insert was answered.
+// How an insert was answered.
 #[tactic(auto, unfolding(crate::specs::HistoryReading::answer_of))]
 fn answer(word: &[u8]) -> Result<Reply, Cause>
     ensures { result ≡ answer_of word.now }
@@ -62,12 +51,12 @@ fn answer(word: &[u8]) -> Result<Reply, Cause>
     }
 }
 
-/// What stands behind `+`.
+// What stands behind `+`.
 #[tactic(auto, unfolding(crate::specs::HistoryReading::insert_of))]
 fn insert(words: &mut WordReader<'_>, seat: u32) -> Result<Mark, Cause>
     ensures { result ≡ insert_of seat words.old.words }
 {
-    let added = entry(words)?;
+    let added = read_entry(words)?;
     let reply = answer(words.word()?)?;
     words.finish()?;
     Ok(Mark {
@@ -77,65 +66,101 @@ fn insert(words: &mut WordReader<'_>, seat: u32) -> Result<Mark, Cause>
     })
 }
 
-/// What stands behind `- got`.
+// What stands behind `got`.
 #[tactic(auto, unfolding(crate::specs::HistoryReading::got_of))]
-fn got(words: &mut WordReader<'_>, seat: u32) -> Result<Mark, Cause>
-    ensures { result ≡ got_of seat words.old.words }
+fn got(words: &mut WordReader<'_>, seat: u32, act: Act) -> Result<Mark, Cause>
+    ensures { result ≡ got_of seat act words.old.words }
 {
-    let taken = entry(words)?;
+    let taken = read_entry(words)?;
     words.finish()?;
     Ok(Mark {
         seat,
-        act: Act::Remove,
+        act,
         reply: Reply::Got(taken),
     })
 }
 
-/// What stands behind `- empty`.
-#[tactic(auto, unfolding(crate::specs::HistoryReading::empty_of))]
-fn empty(words: &mut WordReader<'_>, seat: u32) -> Result<Mark, Cause>
-    ensures { result ≡ empty_of seat words.old.words }
+// What stands behind an answer that tells no entry.
+#[tactic(auto, unfolding(crate::specs::HistoryReading::bare_of))]
+fn bare(words: &mut WordReader<'_>, seat: u32, act: Act, reply: Reply) -> Result<Mark, Cause>
+    ensures { result ≡ bare_of seat act reply words.old.words }
 {
     words.finish()?;
-    Ok(Mark {
-        seat,
-        act: Act::Remove,
-        reply: Reply::Empty,
-    })
+    Ok(Mark { seat, act, reply })
 }
 
-/// What stands behind `-`.
-#[tactic(auto, unfolding(crate::specs::HistoryReading::remove_of))]
-fn remove(words: &mut WordReader<'_>, seat: u32) -> Result<Mark, Cause>
-    ensures { result ≡ remove_of seat words.old.words }
+// How a removal was answered, by this word and those behind it.
+#[tactic(auto, unfolding(crate::specs::HistoryReading::removed_of))]
+fn removed(words: &mut WordReader<'_>, seat: u32, act: Act, word: &[u8]) -> Result<Mark, Cause>
+    ensures { result ≡ removed_of seat act word.now words.old.words }
 {
-    let word = words.word()?;
     if word == b"got".as_slice() {
-        got(words, seat)
+        got(words, seat, act)
     } else if word == b"empty".as_slice() {
-        empty(words, seat)
+        bare(words, seat, act, Reply::Empty)
     } else {
         Err(Cause::Word)
     }
 }
 
-/// What stands behind the place.
+// What stands behind `-`.
+#[tactic(auto, unfolding(crate::specs::HistoryReading::remove_of))]
+fn remove(words: &mut WordReader<'_>, seat: u32) -> Result<Mark, Cause>
+    ensures { result ≡ remove_of seat words.old.words }
+{
+    let word = words.word()?;
+    removed(words, seat, Act::Remove, word)
+}
+
+// How a removal below a limit was answered, by this word and those behind it.
+#[tactic(auto, unfolding(crate::specs::HistoryReading::limited_of))]
+fn limited(words: &mut WordReader<'_>, seat: u32, act: Act, word: &[u8]) -> Result<Mark, Cause>
+    ensures { result ≡ limited_of seat act word.now words.old.words }
+{
+    if word == b"above".as_slice() {
+        bare(words, seat, act, Reply::Above)
+    } else {
+        removed(words, seat, act, word)
+    }
+}
+
+// What stands behind `<`.
+#[tactic(auto, unfolding(crate::specs::HistoryReading::below_of))]
+fn below(words: &mut WordReader<'_>, seat: u32) -> Result<Mark, Cause>
+    ensures { result ≡ below_of seat words.old.words }
+{
+    let limit = words.number(0, KEY_LIMIT as u64)? as u32;
+    let word = words.word()?;
+    limited(words, seat, Act::RemoveBelow(limit), word)
+}
+
+// What stands behind the seat, by this word and those behind it.
+#[tactic(auto, unfolding(crate::specs::HistoryReading::call_of))]
+fn call(words: &mut WordReader<'_>, seat: u32, word: &[u8]) -> Result<Mark, Cause>
+    ensures { result ≡ call_of seat word.now words.old.words }
+{
+    if word == b"+".as_slice() {
+        insert(words, seat)
+    } else if word == b"-".as_slice() {
+        remove(words, seat)
+    } else if word == b"<".as_slice() {
+        below(words, seat)
+    } else {
+        Err(Cause::Word)
+    }
+}
+
+// What stands behind the place.
 #[tactic(auto, unfolding(crate::specs::HistoryReading::mark_of))]
 fn mark(words: &mut WordReader<'_>, seats: u32) -> Result<Mark, Cause>
     ensures { result ≡ mark_of seats words.old.words }
 {
     let seat = words.number(1, u64::from(seats))? as u32;
     let word = words.word()?;
-    if word == b"+".as_slice() {
-        insert(words, seat)
-    } else if word == b"-".as_slice() {
-        remove(words, seat)
-    } else {
-        Err(Cause::Word)
-    }
+    call(words, seat, word)
 }
 
-/// The line of the mark with this place, of which the first word is taken.
+// The line of the mark with this place, of which the first word is taken.
 #[tactic(auto, unfolding(crate::specs::HistoryReading::placed_of))]
 fn placed(
     words: &mut WordReader<'_>,
@@ -143,22 +168,22 @@ fn placed(
     place: usize,
     seats: u32,
 ) -> Result<HistoryLine, Cause>
-    requires { place ≤ 1048576 }
+    requires { place ≤ max_marks }
     ensures { result ≡ placed_of place seats word.now words.old.words }
 {
     digits(word, place as u64, place as u64)?;
-    if place >= MARKS_LIMIT {
+    if place >= MAX_MARKS {
         return Err(Cause::Extra);
     }
     Ok(HistoryLine::Marked(mark(words, seats)?))
 }
 
-/// What stands behind `left`.
+// What stands behind `left`.
 #[tactic(auto, unfolding(crate::specs::HistoryReading::ends_of))]
 fn ends(words: &mut WordReader<'_>) -> Result<HistoryLine, Cause>
     ensures { result ≡ ends_of words.old.words }
 {
-    let left = words.number(0, 1_048_576)?;
+    let left = words.number(0, MAX_CAPACITY as u64)?;
     words.finish()?;
     Ok(HistoryLine::Ends(left as u32))
 }
@@ -170,7 +195,7 @@ pub(crate) fn line(
     place: usize,
     seats: u32,
 ) -> Result<HistoryLine, Cause>
-    requires { place ≤ 1048576 }
+    requires { place ≤ max_marks }
     ensures { result ≡ line_of place seats words.old.words }
 {
     let word = words.word()?;

@@ -1,19 +1,18 @@
+//! The text of a history, read.
 ghost use Rattle.std.specs.Prelude.{◌≡◌, ◌≤◌, IfOk, Ok};
 ghost use Rattle.pq_io.specs.Reading.{Leaves, Gives, line_at};
+ghost use Rattle.pq_tape.specs.Limits.{max_marks};
 ghost use Rattle.pq_tape.specs.HistoryText.{Recorded, IsWithinLimits};
 ghost use Rattle.pq_tape.specs.HistoryReading.{head_of, line_of, marks_in, history_in, history_of};
 ghost use Rattle.pq_tape.specs.HistorySpelling.{IsHistoryText};
 
 use crate::history::lines::{HistoryLine, head, line};
 use crate::history::{Head, History};
-use pq_io::{BadInput, Cause, ReadRefusal, TextReader, on_line};
+use pq_io::{BadInput, ReadRefusal, TextReader, on_line};
 use pq_model::Mark;
 use std::alloc::Global;
 
-/// The most bytes that a text may have.
-const TEXT_LIMIT: usize = 67_108_864;
-
-/// Takes the first line.
+// Takes the first line.
 #[tactic(auto, unfolding(pq_io::specs::Reading::line_at))]
 fn next_head(text: &mut TextReader<'_>) -> Result<Head, BadInput>
     ensures { Leaves (λ h. h) result text.new (line_at head_of text.old) }
@@ -23,14 +22,14 @@ fn next_head(text: &mut TextReader<'_>) -> Result<Head, BadInput>
     on_line(number, head(&mut words))
 }
 
-/// Takes the line behind this many marks.
+// Takes the line behind this many marks.
 #[tactic(auto, unfolding(pq_io::specs::Reading::line_at))]
 fn next_history_line(
     text: &mut TextReader<'_>,
     place: usize,
     seats: u32,
 ) -> Result<HistoryLine, BadInput>
-    requires { place ≤ 1048576 }
+    requires { place ≤ max_marks }
     ensures { Leaves (λ l. l) result text.new (line_at (line_of place seats) text.old) }
 {
     let mut words = text.next_line()?;
@@ -38,13 +37,14 @@ fn next_history_line(
     on_line(number, line(&mut words, place, seats))
 }
 
-/// Takes the lines behind the first: the marks, and how many entries are left.
+// Takes the lines behind the first: the marks, and how many entries are left.
 fn next_marks(
     alloc: Global,
     text: &mut TextReader<'_>,
     seats: u32,
 ) -> Result<(Vec<Mark>, u32), ReadRefusal>
-    ensures { Gives (λ r. record { value = r.0.items; rest = r.1 }) result (marks_in 0 seats text.old.lines text.old.end) }
+    ensures { Gives (λ r. record { value = r.0.items; rest = r.1 }) result
+        (marks_in 0 seats text.old.lines text.old.end) }
 {
     let mut marks = Vec::new(alloc);
     loop {
@@ -58,7 +58,7 @@ fn next_marks(
     }
 }
 
-/// Takes the lines of a history.
+// Takes the lines of a history.
 #[tactic(auto, unfolding(crate::specs::HistoryReading::history_in))]
 fn next_history(alloc: Global, text: &mut TextReader<'_>) -> Result<History, ReadRefusal>
     ensures { Gives (λ h. h) result (history_in text.old) }
@@ -71,11 +71,12 @@ fn next_history(alloc: Global, text: &mut TextReader<'_>) -> Result<History, Rea
 /// The history that the text records: a line `seats S capacity C`, a line for each mark in the order of
 /// places, and a line `left N`, which ends the text.
 ///
-/// S is 1 to 16, C 1 to 1,048,576 and N 0 to 1,048,576. A mark's line begins with its place, which is the
-/// number of marks before it, and its seat, 1 to S. Then stands `+ key id done`, `+ key id full`,
-/// `- got key id` or `- empty`, where a key is 0 to 67,108,863 and an id 0 to 4,194,303. There are at most
-/// 1,048,576 marks: the next is `Extra`, once its place is right. A line that begins with neither `left`
-/// nor a number is a `Number` fault. A text of more than 67,108,864 bytes is `TooLarge`, at line 0.
+/// S is 1 to `MAX_SEATS`, C 1 to `MAX_CAPACITY` and N 0 to `MAX_CAPACITY`. A mark's line begins with its place,
+/// which is the number of marks before it, and its seat, 1 to S. Then stands `+ key id done`, `+ key id full`,
+/// `- got key id`, `- empty`, `< limit got key id`, `< limit empty` or `< limit above`, where a key is 0 to
+/// 67,108,863, an id 0 to 4,194,303 and a limit 0 to 67,108,864. There are at most `MAX_MARKS` marks: the next is
+/// `Extra`, once its place is right. A line that begins with neither `left` nor a number is a `Number` fault. A text
+/// of more bytes than an input may have is `TooLarge`, at line 0.
 ///
 /// A text that records no history is refused with its first fault: the number of the line, and the cause.
 /// Linear in the text, which is not copied; it takes memory for the marks alone.
@@ -96,11 +97,5 @@ pub fn read_history(alloc: Global, bytes: &[u8]) -> Result<History, ReadRefusal>
 fn whole_history(alloc: Global, bytes: &[u8]) -> Result<History, ReadRefusal>
     ensures { Gives (λ h. h) result (history_of bytes.now) }
 {
-    if bytes.len() > TEXT_LIMIT {
-        return Err(ReadRefusal::BadInput(BadInput {
-            line: 0,
-            cause: Cause::TooLarge,
-        }));
-    }
-    next_history(alloc, &mut TextReader::new(bytes))
+    next_history(alloc, &mut TextReader::open(bytes)?)
 }

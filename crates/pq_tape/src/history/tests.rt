@@ -1,3 +1,4 @@
+//! Texts that are read and written, and first faults.
 use crate::history::*;
 use pq_io::{BadInput, Cause, Failed, MemorySink, ReadRefusal};
 use pq_model::{Act, Reply};
@@ -5,12 +6,13 @@ use pq_words::Entry;
 use std::alloc::Global;
 use std::test::Fail;
 
-/// Calls of every kind, the greatest seat, key and id, and a seat number above the capacity.
+// Calls of every kind, the greatest seat, key and id, and a seat number above the capacity.
 const EVERY_KIND: &[u8] =
-    b"seats 16 capacity 1\n0 16 + 67108863 4194303 done\n1 1 + 0 0 full\n2 9 - got 67108863 4194303\n3 2 - empty\nleft 0\n";
+    b"seats 16 capacity 1\n0 16 + 67108863 4194303 done\n1 1 + 0 0 full\n2 9 - got 67108863 4194303\n3 2 - empty\n\
+4 1 < 0 empty\n5 2 < 67108864 got 67108863 4194303\n6 16 < 67108863 above\nleft 0\n";
 
-/// What is written for the history that these bytes record, into a sink of this room, whose write of this
-/// number is to fail.
+// What is written for the history that these bytes record, into a sink of this room, whose write of this
+// number is to fail.
 fn again(
     alloc: Global,
     bytes: &[u8],
@@ -76,17 +78,17 @@ fn marks_of_a_text(rt: HostRuntime) -> Result<(), Fail> {
 #[test]
 fn failing_sinks(rt: HostRuntime) -> Result<(), Fail> {
     let rows = [(4_096, 1, 0), (30, 0, 30), (0, 0, 0)];
-    for (room, fail, front) in rows {
+    for (room, fail, prefix) in rows {
         let (written, sink) = again(rt.alloc(), EVERY_KIND, room, fail)?;
         assert_eq!(rt; written, Err(Failed));
-        assert_eq!(rt; Some(sink.bytes()), EVERY_KIND.get(..front));
+        assert_eq!(rt; Some(sink.bytes()), EVERY_KIND.get(..prefix));
     }
     Ok(())
 }
 
 #[test]
 fn first_faults(rt: HostRuntime) {
-    let rows: [(&[u8], u32, Cause); 24] = [
+    let rows: [(&[u8], u32, Cause); 29] = [
         (b"", 1, Cause::Missing),
         (b"seats 2 capacity 4\n", 2, Cause::Missing),
         (b"seats 0 capacity 4\n", 1, Cause::Range),
@@ -115,6 +117,15 @@ fn first_faults(rt: HostRuntime) {
         (b"seats 2 capacity 4\n0 2 - done\n", 2, Cause::Word),
         (b"seats 2 capacity 4\n0 2 - got 5\n", 2, Cause::Missing),
         (b"seats 2 capacity 4\n0 2 - empty 1\n", 2, Cause::Extra),
+        (
+            b"seats 2 capacity 4\n0 2 < 67108865 empty\n",
+            2,
+            Cause::Range,
+        ),
+        (b"seats 2 capacity 4\n0 2 < x empty\n", 2, Cause::Number),
+        (b"seats 2 capacity 4\n0 2 < 5 done\n", 2, Cause::Word),
+        (b"seats 2 capacity 4\n0 2 - above\n", 2, Cause::Word),
+        (b"seats 2 capacity 4\n0 2 < 5 above 1\n", 2, Cause::Extra),
         (b"seats 2 capacity 4\n0 2 - empty\n\n", 4, Cause::Missing),
         (b"seats 2 capacity 4\nleft 1048577\n", 2, Cause::Range),
         (b"seats 2 capacity 4\nleft 0 1\n", 2, Cause::Extra),

@@ -1,4 +1,5 @@
-ghost use Rattle.std.specs.Prelude.{◌≡◌, ◌+◌, ◌≤◌, ◌++◌, ◌∷◌, [], All, Some, length, codes, decimal, IfSome, OnOk, OnErr};
+//! The text of a history, written.
+ghost use Rattle.std.specs.Prelude.{◌≡◌, ◌+◌, ◌≤◌, ◌++◌, ◌∷◌, [], All, Some, length, decimal, IfSome, OnOk, OnErr};
 ghost use Rattle.pq_io.specs.Streams.{Rose};
 ghost use Rattle.pq_io.specs.Gathering.{WritesPrefix};
 ghost use Rattle.pq_io.specs.Writing.{words_text};
@@ -13,13 +14,13 @@ use pq_io::{Failed, Sink, put_all};
 use pq_model::{Act, Mark, Reply};
 use pq_words::Entry;
 
-/// How many bytes are held back before they go to the sink together.
+// How many bytes are held back before they go to the sink together.
 const HELD: usize = 4_096;
 
-/// More than the longest line has.
+// More than the longest line has.
 const LONGEST_LINE: usize = 128;
 
-/// Lines that are written, and did not go to the sink yet.
+// Lines that are written, and did not go to the sink yet.
 type Held = ArrayString<HELD>;
 
 fn push_number(held: &mut Held, number: u64)
@@ -30,7 +31,7 @@ fn push_number(held: &mut Held, number: u64)
     held.push_str(Buffer::new().format(number));
 }
 
-/// A key, a space, and an id.
+// A key, a space, and an id.
 fn push_entry(held: &mut Held, entry: Entry)
     requires { length held.old.bytes + 41 ≤ 4096 }
     ensures text { held.new.bytes ≡ held.old.bytes ++ decimal entry.key ++ 32 ∷ decimal entry.id }
@@ -41,34 +42,61 @@ fn push_entry(held: &mut Held, entry: Entry)
     push_number(held, u64::from(entry.id));
 }
 
-/// What stands behind the seat.
+// `+`, an entry, and how it was answered.
+fn push_insert(held: &mut Held, added: Entry, answer: &str)
+    requires { length held.old.bytes + 43 + length answer.now ≤ 4096 }
+    ensures text { held.new.bytes ≡
+        held.old.bytes ++ 43 ∷ 32 ∷ (decimal added.key ++ 32 ∷ (decimal added.id ++ answer.now)) }
+    ensures short { length held.new.bytes ≤ length held.old.bytes + 43 + length answer.now }
+{
+    held.push_str("+ ");
+    push_entry(held, added);
+    held.push_str(answer);
+}
+
+// `<` and a limit.
+fn push_limit(held: &mut Held, limit: u32)
+    requires { length held.old.bytes + 22 ≤ 4096 }
+    ensures text { held.new.bytes ≡ held.old.bytes ++ 60 ∷ 32 ∷ decimal limit }
+    ensures short { length held.new.bytes ≤ length held.old.bytes + 22 }
+{
+    held.push_str("< ");
+    push_number(held, u64::from(limit));
+}
+
+// What stands behind the seat.
 fn push_call(held: &mut Held, act: Act, reply: Reply)
-    requires room { length held.old.bytes + 60 ≤ 4096 }
+    requires room { length held.old.bytes + 80 ≤ 4096 }
     requires line { HasLine act reply }
     ensures text { held.new.bytes ≡ held.old.bytes ++ words_text (call_words act reply) }
-    ensures short { length held.new.bytes ≤ length held.old.bytes + 60 }
+    ensures short { length held.new.bytes ≤ length held.old.bytes + 80 }
 {
     match (act, reply) {
-        (Act::Insert(added), Reply::Done) => {
-            held.push_str("+ ");
-            push_entry(held, added);
-            held.push_str(" done");
-        }
-        (Act::Insert(added), Reply::Full) => {
-            held.push_str("+ ");
-            push_entry(held, added);
-            held.push_str(" full");
-        }
+        (Act::Insert(added), Reply::Done) => push_insert(held, added, " done"),
+        (Act::Insert(added), Reply::Full) => push_insert(held, added, " full"),
         (Act::Remove, Reply::Got(taken)) => {
             held.push_str("- got ");
             push_entry(held, taken);
         }
         (Act::Remove, Reply::Empty) => held.push_str("- empty"),
+        (Act::RemoveBelow(limit), Reply::Got(taken)) => {
+            push_limit(held, limit);
+            held.push_str(" got ");
+            push_entry(held, taken);
+        }
+        (Act::RemoveBelow(limit), Reply::Empty) => {
+            push_limit(held, limit);
+            held.push_str(" empty");
+        }
+        (Act::RemoveBelow(limit), Reply::Above) => {
+            push_limit(held, limit);
+            held.push_str(" above");
+        }
         _ => unreachable!(),
     }
 }
 
-/// The first line.
+// The first line.
 fn push_head(held: &mut Held, head: Head)
     requires { length held.old.bytes + 128 ≤ 4096 }
     ensures { held.new.bytes ≡ held.old.bytes ++ words_text (head_words head) ++ 10 ∷ [] }
@@ -80,7 +108,7 @@ fn push_head(held: &mut Held, head: Head)
     held.push_str("\n");
 }
 
-/// The line of the mark with this place.
+// The line of the mark with this place.
 fn push_mark(held: &mut Held, place: u64, mark: Mark)
     requires room { length held.old.bytes + 128 ≤ 4096 }
     requires line { HasLine mark.act mark.reply }
@@ -94,7 +122,7 @@ fn push_mark(held: &mut Held, place: u64, mark: Mark)
     held.push_str("\n");
 }
 
-/// The last line.
+// The last line.
 fn push_left(held: &mut Held, left: u32)
     requires { length held.old.bytes + 128 ≤ 4096 }
     ensures { held.new.bytes ≡ held.old.bytes ++ words_text (left_words left) ++ 10 ∷ [] }
@@ -104,13 +132,14 @@ fn push_left(held: &mut Held, left: u32)
     held.push_str("\n");
 }
 
-/// Makes room for one more line: where there is too little, what is held goes to the sink.
+// Makes room for one more line: where there is too little, what is held goes to the sink.
 fn make_room<K: Sink>(sink: &mut K, held: &mut Held) -> Result<(), Failed>
     ensures room { OnOk result (length held.new.bytes + 128 ≤ 4096) }
-    ensures kept { OnOk result (IsStillPending (K.written sink.old) held.old.bytes (K.written sink.new) held.new.bytes) }
+    ensures kept { OnOk result
+        (IsStillPending (K.written sink.old) held.old.bytes (K.written sink.new) held.new.bytes) }
     ensures counted { K.faults sink.old ≤ K.faults sink.new }
     ensures failed { OnErr result (Rose (K.faults sink.old) (K.faults sink.new)) }
-    ensures front { OnErr result (IfSome (K.written sink.old)
+    ensures prefix { OnErr result (IfSome (K.written sink.old)
         (λ before. WritesPrefix before held.old.bytes (K.written sink.new))) }
 {
     if held.len() + LONGEST_LINE > HELD {
@@ -123,9 +152,10 @@ fn make_room<K: Sink>(sink: &mut K, held: &mut Held) -> Result<(), Failed>
 /// Writes the text of a history: the line `seats S capacity C`, a line for each mark with its place, and
 /// the line `left N`.
 ///
-/// Each mark's act and reply have to be a pair that has a line: an insert answered by `Done` or `Full`, or
-/// a removal by `Got` or `Empty`. `Failed` comes only where the sink's count of faults rose in this call,
-/// and then a front of the text, and not all of it, was written. Linear in the text. It takes no memory:
+/// Each mark's act and reply have to be a pair that has a line: an insert answered by `Done` or `Full`, a
+/// removal by `Got` or `Empty`, or a removal below a limit, which is at most `KEY_LIMIT`, by `Got`, `Empty` or
+/// `Above`. `Failed` comes only where the sink's count of faults rose in this call,
+/// and then a prefix of the text, and not all of it, was written. Linear in the text. It takes no memory:
 /// lines are held back in 4,096 bytes of the call's own, which go to the sink together.
 pub fn write_history<K: Sink>(
     head: Head,
@@ -138,7 +168,7 @@ pub fn write_history<K: Sink>(
         (λ before. K.written sink.new ≡ Some (before ++ history_text head marks.now left))) }
     ensures counted { K.faults sink.old ≤ K.faults sink.new }
     ensures failed { OnErr result (Rose (K.faults sink.old) (K.faults sink.new)) }
-    ensures front { OnErr result (IfSome (K.written sink.old)
+    ensures prefix { OnErr result (IfSome (K.written sink.old)
         (λ before. WritesPrefix before (history_text head marks.now left) (K.written sink.new))) }
 {
     let mut held = ArrayString::new();

@@ -1,3 +1,4 @@
+//! The one history that tapes make together.
 ghost use Rattle.std.specs.Prelude.{◌≡◌, ◌≤◌, ◌<◌, All, length, IfOk};
 ghost use Rattle.pq_model.specs.declared.passes.Call.{Call};
 ghost use Rattle.pq_tape.specs.Tapes.{Taped, IsComplete, IsByPlace, places, with_calls, with_tapes};
@@ -7,14 +8,14 @@ use pq_io::NoMemory;
 use pq_model::{Act, Call, Mark, Reply};
 use std::alloc::Global;
 
-/// What stands at a place until its call is put there.
+// What stands at a place until its call is put there.
 const NO_CALL: Mark = Mark {
     seat: 0,
     act: Act::Remove,
     reply: Reply::Empty,
 };
 
-/// How many calls there are. Where there are more than a `usize` counts, no memory would hold them.
+// How many calls there are. Where there are more than a `usize` counts, no memory would hold them.
 fn count_calls(tapes: &[Tape]) -> Result<usize, NoMemory>
     ensures { IfOk result (λ n. n ≡ length (places tapes.now)) }
 {
@@ -25,7 +26,7 @@ fn count_calls(tapes: &[Tape]) -> Result<usize, NoMemory>
     Ok(count)
 }
 
-/// Puts each call of this seat at its place.
+// Puts each call of this seat at its place.
 fn put_calls(marks: &mut Vec<Mark>, seat: u32, calls: &[Call])
     requires { All (λ (c : Call). c.place < length marks.old.items) calls.now }
     ensures { marks.new.items ≡ with_calls seat calls.now marks.old.items }
@@ -39,7 +40,7 @@ fn put_calls(marks: &mut Vec<Mark>, seat: u32, calls: &[Call])
     }
 }
 
-/// Puts each call of these tapes at its place.
+// Puts each call of these tapes at its place.
 fn put_tapes(marks: &mut Vec<Mark>, tapes: &[Tape])
     requires { All (λ (t : Taped). All (λ (c : Call). c.place < length marks.old.items) t.lane.calls) tapes.now }
     ensures { marks.new.items ≡ with_tapes tapes.now marks.old.items }

@@ -1,3 +1,4 @@
+//! Tapes, and the history that two make.
 ghost use Rattle.std.specs.Prelude.{◌≡◌, ◌∷◌, [], IfOk};
 ghost use Rattle.pq_model.specs.declared.marks.Act.TheVariants.{Remove};
 ghost use Rattle.pq_model.specs.declared.marks.Reply.TheVariants.{Empty, Full};
@@ -7,7 +8,7 @@ use crate::tapes::*;
 use pq_model::Mark;
 use std::test::Fail;
 
-/// A tape with room for one call that takes two.
+// A tape with room for one call that takes two.
 fn tape_of(alloc: Global, seat: u32, first: u32, second: u32) -> Result<Tape, NoMemory>
     ensures { IfOk result (λ t. t.lane ≡ lane seat (call first Remove Empty ∷ call second Remove Full ∷ [])) }
 {

@@ -6,10 +6,10 @@ use Rattle.pq_tape.specs.Pending.{Pending}
 use Rattle.pq_tape.proofs.Pending.{grows, ends, fails, next_mark, last_line, err_with, err_so, ok_so}
 use Rattle.pq_tape.proofs.history.writing.write_history.Goals as goal
 
-pub returns-in_err-make_room-clause-front : goal.returns-in_err-make_room-clause-front
-returns-in_err-make_room-clause-front g c =
+pub returns-in_err-make_room-clause-prefix : goal.returns-in_err-make_room-clause-prefix
+returns-in_err-make_room-clause-prefix g c =
     err_with c.from_residual.result
-    (fails (g.K.Sink.written c.args.sink.now) (g.K.Sink.written c.loop-mark.sink) (g.K.Sink.written c.make_room.new.sink) c.loop-mark.held.bytes _ _ c.loop-mark.invariant.pending c.in_err-make_room.ensures.front)
+    (fails (g.K.Sink.written c.args.sink.now) (g.K.Sink.written c.loop-mark.sink) (g.K.Sink.written c.make_room.new.sink) c.loop-mark.held.bytes _ _ c.loop-mark.invariant.pending c.in_err-make_room.ensures.prefix)
 
 pub loop-mark-preserved : goal.loop-mark-preserved
 loop-mark-preserved g c =
@@ -29,10 +29,10 @@ loop-mark-preserved g c =
           (c.in_ok-make_room.ensures.kept (g.K.Sink.written c.args.sink.now) (lines_text (marks_lines i (drop i ms) ++ tail)) (history_text c.args.head ms c.args.left) c.loop-mark.invariant.pending);
     }
 
-pub returns-in_err-make_room-2-clause-front : goal.returns-in_err-make_room-2-clause-front
-returns-in_err-make_room-2-clause-front g c =
+pub returns-in_err-make_room-2-clause-prefix : goal.returns-in_err-make_room-2-clause-prefix
+returns-in_err-make_room-2-clause-prefix g c =
     err_with c.from_residual-in_err-make_room-2.result
-    (fails (g.K.Sink.written c.args.sink.now) (g.K.Sink.written c.loop-mark.sink) (g.K.Sink.written c.make_room-2.new.sink) c.loop-mark.held.bytes _ _ c.loop-mark.invariant.pending c.in_err-make_room-2.ensures.front)
+    (fails (g.K.Sink.written c.args.sink.now) (g.K.Sink.written c.loop-mark.sink) (g.K.Sink.written c.make_room-2.new.sink) c.loop-mark.held.bytes _ _ c.loop-mark.invariant.pending c.in_err-make_room-2.ensures.prefix)
 
 -- the last line is held back too, and nothing is to come
 abbrev LastPending : (g : _) → goal.After-put_all g → Type 0
@@ -55,7 +55,7 @@ returns-clause-appended g c =
     let whole : List ℕ = history_text c.args.head c.args.marks.now c.args.left in
     ok_so c.put_all.result (ends (g.K.Sink.written c.args.sink.now) (g.K.Sink.written c.make_room-2.new.sink) (g.K.Sink.written c.put_all.new.sink) c.as_bytes.result.now whole (last_pending g c)) c.put_all.ensures.appended
 
-pub returns-clause-front : goal.returns-clause-front
-returns-clause-front g c =
+pub returns-clause-prefix : goal.returns-clause-prefix
+returns-clause-prefix g c =
     let whole : List ℕ = history_text c.args.head c.args.marks.now c.args.left in
     err_so c.put_all.result (fails (g.K.Sink.written c.args.sink.now) (g.K.Sink.written c.make_room-2.new.sink) (g.K.Sink.written c.put_all.new.sink) c.as_bytes.result.now [] whole (last_pending g c)) c.put_all.ensures.prefix
