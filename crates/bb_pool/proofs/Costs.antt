@@ -1,8 +1,9 @@
 -- Costs beside the best so far.
-use Rattle.std.proofs.Common.{◌≡◌, ℕ, ◌<◌, ◌≤◌, false, Some, None, Option, arith}
+use Rattle.std.proofs.Common.{◌≡◌, ℕ, ◌<◌, ◌≤◌, true, false, Some, None, Option, refl, arith}
 use Rattle.std.specs.Prelude.{IsTrue}
-use Rattle.std.proofs.lemmas.Bool.{ltb-true, ltb-false, lt-ltb}
-use Rattle.bb_pool.specs.Costs.{is_better, IsAtLeast}
+use Rattle.std.proofs.lemmas.Bool.{ltb-true, ltb-false, lt-ltb, le-ltb}
+use Rattle.pq_words.specs.Limits.{key_limit}
+use Rattle.bb_pool.specs.Costs.{is_better, limit_of, IsAtLeast}
 
 -- what is below one that is better is better
 pub better_below : (u v : ℕ) (best : Option ℕ) → u ≤ v → IsTrue (is_better v best) → IsTrue (is_better u best)
@@ -25,3 +26,13 @@ not_below_itself cost v le better = let lt : v < cost = ltb-true v cost better i
 -- what is below a cost that is better than the best is better than the best
 pub below_better : (cost v : ℕ) (best : Option ℕ) → IsTrue (is_better cost best) → IsTrue (is_better v (Some cost)) → IsTrue (is_better v best)
 below_better cost v best better less = let lt : v < cost = ltb-true v cost less in better_below v cost best (omega arith) better
+
+-- a key below the limit is better
+pub below_limit : (key : ℕ) (best : Option ℕ) → key < limit_of best → is_better key best ≡ true
+below_limit key None lt = refl
+below_limit key (Some b) lt = lt-ltb key b lt
+
+-- a key that is not below the limit is not better
+pub from_limit : (key : ℕ) (best : Option ℕ) → key < key_limit → limit_of best ≤ key → is_better key best ≡ false
+from_limit key None fits le = absurd (omega arith)
+from_limit key (Some b) fits le = le-ltb key b le

@@ -1,5 +1,5 @@
 -- The steps of a search: a node is put, dropped, expanded to a plan or to children, and what an empty queue says.
-use Rattle.std.proofs.Common.{◌≡◌, ℕ, ◌+◌, ◌<◌, ◌≤◌, Bool, List, [], ◌∷◌, ◌++◌, length, map, set, Some, None, Option, refl, sym, ap, ◌∙◌, subst, inl, inr, arith}
+use Rattle.std.proofs.Common.{◌≡◌, ℕ, ◌+◌, ◌<◌, ◌≤◌, Bool, false, List, [], ◌∷◌, ◌++◌, length, map, set, Some, None, Option, refl, sym, ap, ◌∙◌, subst, inl, inr, arith}
 use Rattle.std.specs.Prelude.{All, Contains, slice_get, IsTrue}
 use Rattle.std.proofs.lemmas.Bool.{lt-ltb, cases_Bool, cases_lt}
 use Rattle.std.proofs.lemmas.List.{length-append, length-set}
@@ -8,13 +8,13 @@ use Rattle.pq_words.specs.declared.entries.Entry.{Entry}
 use Rattle.pq_words.specs.Entries.{raw_of}
 use Rattle.pq_model.specs.Multiset.{add, IsRising}
 use Rattle.pq_model.proofs.Multisets.{All-add, length-add, least_all}
-use Rattle.bb_problem.specs.Tree.{below, total}
+use Rattle.bb_problem.specs.Tree.{below, unavoidable, total}
 use Rattle.bb_problem.specs.Meaning.{Meaning, IsLawful}
 use Rattle.bb_pool.specs.Costs.{is_better, IsAtLeast}
 use Rattle.bb_pool.specs.Children.{better_names}
 use Rattle.bb_pool.specs.Searching.{name_at, need_at, unavoidable_at, StandsFor, AreAhead, IsSearching}
-use Rattle.bb_pool.proofs.Costs.{better_below, not_above}
-use Rattle.bb_pool.proofs.Counts.{root_counted, put_counted, closed_counted, branched_counted, kept_counted}
+use Rattle.bb_pool.proofs.Costs.{better_below, not_above, not_better}
+use Rattle.bb_pool.proofs.Counts.{root_counted, put_counted, closed_counted, branched_counted, kept_counted, all_made}
 use Rattle.bb_pool.proofs.Members.{none_in_empty, Contains-here, Contains-cases, Contains-map, Contains-filter, Contains-added, Contains-add, All-both}
 use Rattle.bb_pool.proofs.Names.{slice_get-new, name_at-push, name_at-new, id_within, StandsFor-push, StandsFor-set, IdsDiffer-add}
 use Rattle.bb_pool.proofs.Needs.{need_branch}
@@ -87,7 +87,7 @@ node_closed {N} {P} {m} {capacity} {names} {entries} {store} {best} e now s fewe
       counted = rw same_length (closed_counted e now alone ahead s.counted);
     }
 
-key_le : (e f : Entry) → raw_of e ≤ raw_of f → e.key ≤ f.key
+pub key_le : (e f : Entry) → raw_of e ≤ raw_of f → e.key ≤ f.key
 unfolding raw_of
 key_le e f le = let fits = f.id_fits in omega arith
 
@@ -156,20 +156,34 @@ better_kept {N} {P} {m} {capacity} {names} {entries} {store} waiting best laws a
       counted = kept_counted waiting best above s.counted;
     }
 
--- where nothing is left, no cost that is reached is better than the best
-nothing_better : {N P : Type 0} {m : Meaning N P} {capacity : ℕ} {names : List (List ℕ)} {store : List (Option N)} {best : Option ℕ}
-    (v : ℕ) → IsSearching m capacity names [] store [] best → m.reaches [] v → IsTrue (is_better v best) → ⊥
-nothing_better v s r better = elim (s.to_find v r better) [ inl u ↦ none_in_empty u.0 u.1 | inr u ↦ none_in_empty u.0 u.1 ]
+-- where no key is better than the best, no cost that is reached is
+nothing_better : {N P : Type 0} {m : Meaning N P} {capacity : ℕ} {names : List (List ℕ)} {entries : List Entry} {store : List (Option N)} {best : Option ℕ}
+    (v : ℕ) → IsLawful m → IsSearching m capacity names entries store [] best → All (λ (e : Entry). is_better e.key best ≡ false) entries → m.reaches [] v → IsTrue (is_better v best) → ⊥
+nothing_better {m} {names} {entries} {store} {best} v laws s none r better = elim (s.to_find v r better) [
+  | inl u ↦ let stands = All-contains (StandsFor m names store) entries u.0 s.each u.1 in
+      let keyed = stands.keyed in
+      let bound = laws.bounded (name_at names u.0.id) v u.2 in
+      let bad = All-contains (λ (e : Entry). is_better e.key best ≡ false) entries u.0 none u.1 in
+      let good = better_below u.0.key v best (omega arith) better in cc
+  | inr u ↦ none_in_empty u.0 u.1
+]
 
 -- so there is a best plan
-pub some_best : {N P : Type 0} {m : Meaning N P} {capacity : ℕ} {names : List (List ℕ)} {store : List (Option N)}
-    → IsLawful m → IsSearching m capacity names [] store [] None → ⊥
-some_best {m} laws s = nothing_better m.least s (least_reached laws) refl
+pub some_best : {N P : Type 0} {m : Meaning N P} {capacity : ℕ} {names : List (List ℕ)} {entries : List Entry} {store : List (Option N)}
+    → IsLawful m → IsSearching m capacity names entries store [] None → All (λ (e : Entry). is_better e.key None ≡ false) entries → ⊥
+some_best {m} laws s none = nothing_better m.least laws s none (least_reached laws) refl
 
 -- and no feasible plan costs less
-pub best_is_least : {N P : Type 0} {m : Meaning N P} {capacity : ℕ} {names : List (List ℕ)} {store : List (Option N)}
-    (cost : ℕ) (other : P) → IsLawful m → IsSearching m capacity names [] store [] (Some cost) → m.is_feasible other → cost ≤ m.cost_of other
-best_is_least {m} cost other laws s feasible_is = elim (cases_lt (m.cost_of other) cost) [
-  | inl lt ↦ absurd (nothing_better (m.cost_of other) s (laws.reached other feasible_is) (lt-ltb (m.cost_of other) cost lt))
+pub best_is_least : {N P : Type 0} {m : Meaning N P} {capacity : ℕ} {names : List (List ℕ)} {entries : List Entry} {store : List (Option N)}
+    (cost : ℕ) (other : P) → IsLawful m → IsSearching m capacity names entries store [] (Some cost) → All (λ (e : Entry). is_better e.key (Some cost) ≡ false) entries → m.is_feasible other → cost ≤ m.cost_of other
+best_is_least {m} cost other laws s none feasible_is = elim (cases_lt (m.cost_of other) cost) [
+  | inl lt ↦ absurd (nothing_better (m.cost_of other) laws s none (laws.reached other feasible_is) (lt-ltb (m.cost_of other) cost lt))
   | inr le ↦ le
 ]
+
+-- all that no search gets around is made
+pub around_is_made : {N P : Type 0} {m : Meaning N P} {capacity : ℕ} {names : List (List ℕ)} {entries : List Entry} {store : List (Option N)}
+    (best : Option ℕ) → IsAtLeast m.least best → IsSearching m capacity names entries store [] best → All (λ (e : Entry). is_better e.key best ≡ false) entries → unavoidable m.tree m.least ≤ length store
+around_is_made {m} {names} {entries} {store} best above s none = all_made
+    (All-both (StandsFor m names store) (λ (e : Entry). is_better e.key best ≡ false) (λ (e : Entry). m.least ≤ m.tree.bound (name_at names e.id)) entries
+    (λ e h bad. let keyed = h.keyed in let high = not_better m.least e.key best above bad in omega arith) s.each none) s.counted

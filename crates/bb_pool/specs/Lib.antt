@@ -1,5 +1,7 @@
 -- What a search over a priority queue means, by name.
+pub mod Limits
 pub mod Costs
+pub mod Endings
 pub mod Outcomes
 pub mod Children
 pub mod Searching

@@ -1,7 +1,9 @@
 -- What the outcomes of a search mean.
 use Rattle.std.specs.Prelude.{ℕ, ◌≡◌, ◌*◌, ◌<◌, ◌≤◌}
+use Rattle.pq_model.specs.declared.passes.Known.{Known}
 use Rattle.bb_problem.specs.Tree.{Tree, needed, unavoidable, open_at_first}
 use Rattle.bb_problem.specs.Meaning.{Meaning}
+use Rattle.bb_pool.specs.Endings.{EndsAt}
 use Rattle.bb_pool.specs.declared.outcome.Outcome.{Outcome}
 use Rattle.bb_pool.specs.declared.outcome.Outcome.TheVariants as outcomes
 use Rattle.bb_pool.specs.declared.outcome.Stop.{Stop}
@@ -32,11 +34,16 @@ pub record IsFullAt (needs nodes capacity place : ℕ) : Type 0 where
   pub from : capacity ≤ place
   pub until : place < 2 * needs
 
+-- What a best plan says of a search with one caller, whose pass has then made these calls.
+pub record IsBest {N P : Type 0} (m : Meaning N P) (nodes capacity : ℕ) (plan : P) (cost : ℕ) (known : Known) : Type 0 where
+  pub optimal : IsOptimal m.is_feasible m.cost_of plan cost
+  pub limits : LeaveRoom m.tree m.least nodes capacity
+  pub ended : EndsAt capacity cost known
+
 -- What each outcome of a search with one caller says, under this node limit, on a queue of this capacity. That
 -- there is no memory says nothing.
 abbrev pub IsOutcome : {N P : Type 0} → Meaning N P → ℕ → ℕ → Outcome P → Type 0
-IsOutcome m nodes capacity (outcomes.Best plan cost) =
-    IsOptimal m.is_feasible m.cost_of plan cost × LeaveRoom m.tree m.least nodes capacity
+IsOutcome m nodes capacity (outcomes.Best plan cost) = (known : Known) × IsBest m nodes capacity plan cost known
 IsOutcome m nodes capacity (outcomes.NodeLimit asked limit) = IsOverLimit (needed m.tree m.least) nodes asked limit
 IsOutcome m nodes capacity (outcomes.Full place) = IsFullAt (needed m.tree m.least) nodes capacity place
 IsOutcome m nodes capacity outcomes.NoMemory = Unit {0}

@@ -3,6 +3,7 @@ use Rattle.std.specs.Prelude.{ℕ, ◌≡◌, ◌+◌, ◌*◌, ◌≤◌, ◌<�
 use Rattle.std.specs.declared.ops.ControlFlow.{ControlFlow}
 use Rattle.std.specs.declared.ops.ControlFlow.TheVariants.{Continue, Break}
 use Rattle.pq_words.specs.declared.entries.Entry.{Entry}
+use Rattle.pq_model.specs.declared.passes.Known.{Known}
 use Rattle.pq_model.specs.Multiset.{add}
 use Rattle.pq_api.specs.Plain.{held}
 use Rattle.bb_problem.specs.Meaning.{Meaning, IsLawful}
@@ -10,10 +11,12 @@ use Rattle.bb_pool.specs.declared.outcome.Outcome.{Outcome}
 use Rattle.bb_pool.specs.declared.outcome.Outcome.TheVariants as outcomes
 use Rattle.bb_pool.specs.declared.outcome.Stop.{Stop}
 use Rattle.bb_pool.specs.declared.outcome.Stop.TheVariants.{NodeLimit, Full, NoMemory}
-use Rattle.bb_pool.specs.declared.state.Found.{Found}
+use Rattle.bb_pool.specs.declared.found.Found.{Found}
 use Rattle.bb_pool.specs.declared.child.Child.{Child}
 use Rattle.bb_pool.specs.declared.state.Search.{Search}
-use Rattle.bb_pool.specs.Outcomes.{IsOutcome}
+use Rattle.bb_pool.specs.Costs.{limit_of}
+use Rattle.bb_pool.specs.Endings.{EndsAt}
+use Rattle.bb_pool.specs.Outcomes.{IsBest}
 use Rattle.bb_pool.specs.Searching.{IsSearching}
 
 -- the cost of the best plan so far
@@ -61,10 +64,11 @@ IsNotPut before (NodeLimit asked) = ⊥
 abbrev pub IsStored : {N : Type 0} → List (Option N) → Entry → Type 0
 IsStored {N} store e = (node : N) × (slice_get store e.id ≡ Some (Some node))
 
--- the least entry was removed, and its node taken out of the store
+-- the least entry was removed, whose key is below the best cost, and its node taken out of the store
 pub record IsTaken {N P : Type 0} (before : Search N P) (child : Child N) (now : Search N P) : Type 0 where
   pub entry : Entry
   pub key : child.key ≡ entry.key
+  pub better : child.key < limit_of (cost_so_far before.best)
   pub first : held before.pass ≡ entry ∷ held now.pass
   pub node : slice_get before.store.items entry.id ≡ Some (Some child.node)
   pub emptied : now.store.items ≡ slice_set before.store.items entry.id None
@@ -73,18 +77,24 @@ pub record IsTaken {N P : Type 0} (before : Search N P) (child : Child N) (now :
   pub capacity : now.pass.capacity ≡ before.pass.capacity
   pub best : now.best ≡ before.best
 
+-- No entry was left whose key is below the best cost.
+pub record IsSpent {N P : Type 0} (before now : Search N P) : Type 0 where
+  pub same : held now.pass ≡ held before.pass
+  pub ended : before.pass.known.number ≡ 1 → EndsAt before.pass.capacity (limit_of (cost_so_far before.best)) now.pass.known
+  pub best : now.best ≡ before.best
+
 -- the best plan so far is one of least cost, and the limits were obeyed
-abbrev pub IsOver : {N P : Type 0} → Meaning N P → ℕ → ℕ → Option (Found P) → Type 0
-IsOver m nodes capacity None = ⊥
-IsOver m nodes capacity (Some found) = IsOutcome m nodes capacity (outcomes.Best found.plan found.cost)
+abbrev pub IsOver : {N P : Type 0} → Meaning N P → ℕ → ℕ → Option (Found P) → Known → Type 0
+IsOver m nodes capacity None known = ⊥
+IsOver m nodes capacity (Some found) known = IsBest m nodes capacity found.plan found.cost known
 
 -- After a turn the search is underway and has made one more call at least, or it is over.
 abbrev pub IsTurn : {N P : Type 0} → Meaning N P → ℕ → ℕ → Search N P → ControlFlow (Unit {0}) (Unit {0}) → Search N P → Type 0
 IsTurn m nodes capacity before (Continue _) now =
     IsUnderway m nodes capacity now [] × (length before.pass.known.calls + 1 ≤ length now.pass.known.calls)
-IsTurn m nodes capacity before (Break _) now = IsOver m nodes capacity now.best
+IsTurn m nodes capacity before (Break _) now = IsOver m nodes capacity now.best now.pass.known
 
--- the outcome where the queue is empty
+-- the outcome of a search that is over
 abbrev pub best_outcome : {P : Type 0} → Option (Found P) → Outcome P
 best_outcome None = outcomes.NoMemory
 best_outcome (Some found) = outcomes.Best found.plan found.cost

@@ -3,11 +3,14 @@
 
 mod child;
 mod children;
+mod found;
+mod limits;
 mod outcome;
 mod plain;
 mod state;
 #[cfg(test)]
 mod tests;
 
+pub use limits::MAX_NODES;
 pub use outcome::Outcome;
 pub use plain::search_plain;

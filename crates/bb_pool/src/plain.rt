@@ -2,14 +2,16 @@
 
 ghost use Rattle.std.specs.Prelude.{ℕ, ◌≡◌, ◌≤◌, ◌<◌, List, [], IfOk, IfErr, IsSome, length};
 ghost use Rattle.pq_model.specs.Passes.{fresh};
+ghost use Rattle.bb_pool.specs.Limits.{max_nodes};
 ghost use Rattle.bb_pool.specs.Outcomes.{IsOutcome, IsStop, outcome_of, IfNodeLimit};
 ghost use Rattle.bb_pool.specs.Children.{StandAt};
-ghost use Rattle.bb_pool.specs.Underway.{IsUnderway, IsTurn, best_outcome};
+ghost use Rattle.bb_pool.specs.Underway.{IsUnderway, IsOver, IsTurn, best_outcome};
 
 use crate::child::Child;
 use crate::children::{is_below, keep};
+use crate::found::Found;
 use crate::outcome::{Outcome, Stop};
-use crate::state::{Found, Search};
+use crate::state::Search;
 use bb_problem::{Problem, Step, needed_is_at_most_tree_size};
 use pq_api::PlainPass;
 use pq_model::left_rises;
@@ -19,13 +21,12 @@ use std::ops::ControlFlow;
 /// Searches for a feasible plan of least cost, the node of least bound first, with one caller. It returns
 /// always.
 ///
-/// The pass has to be new, and `nodes`, the node limit, from 1 to 1,048,560. The root has the number 0. A turn
-/// removes the least entry, whose key is a node's bound and whose id is its number, and drops the node where the
-/// key is not below the best cost so far. Otherwise the node is expanded: a leaf's plan is kept where it is
-/// cheaper than the best, and of a branch the children whose bounds are below the best cost get the next
-/// numbers, and are stored and inserted in order.
+/// The pass has to be new, and `nodes`, the node limit, from 1 to `MAX_NODES`. The root has the number 0. A turn
+/// asks for the least entry whose key is below the best cost so far. The key is a node's bound, the id its number,
+/// and the node is expanded: a leaf's plan is kept where it is cheaper than the best, and of a branch the children
+/// whose bounds are below the best cost get the next numbers, and are stored and inserted in order.
 ///
-/// `Best` comes when the queue is empty. `NodeLimit` comes where a branch's children would pass the limit, before
+/// `Best` comes when no such entry is left. `NodeLimit` comes where a branch's children would pass the limit, before
 /// one of them is inserted; the tree needs at least as many nodes as were asked for. `Full` comes only where the
 /// capacity is below the limit and below what the tree needs. Either way the nodes still open are dropped.
 ///
@@ -39,7 +40,7 @@ pub fn search_plain<P: Problem>(
     nodes: u32,
 ) -> Outcome<P::Plan>
     requires fresh { pass.known ≡ fresh 1 }
-    requires nodes { (1 ≤ nodes) × (nodes ≤ 1048560) }
+    requires nodes { (1 ≤ nodes) × (nodes ≤ max_nodes) }
     ensures outcome { IsOutcome (P.meaning problem.now) nodes pass.capacity result }
     // A node limit of the tree's size is never too low.
     ensures below_size { IfNodeLimit result (λ asked limit. limit < (P.meaning problem.now).tree_size) }
@@ -49,12 +50,9 @@ pub fn search_plain<P: Problem>(
         Ok(search) => search,
         Err(stop) => return stopped(stop, nodes),
     };
-    loop {
-        match take_turn(alloc, problem, &mut search, nodes) {
-            Ok(ControlFlow::Continue(())) => {}
-            Ok(ControlFlow::Break(())) => return finish(search),
-            Err(stop) => return stopped(stop, nodes),
-        }
+    match go_on(alloc, problem, &mut search, nodes) {
+        Ok(()) => finish(search),
+        Err(stop) => stopped(stop, nodes),
     }
 }
 
@@ -66,7 +64,7 @@ fn begin<P: Problem>(
     nodes: u32,
 ) -> Result<Search<P::Node, P::Plan>, Stop>
     requires fresh { pass.known ≡ fresh 1 }
-    requires nodes { (1 ≤ nodes) × (nodes ≤ 1048560) }
+    requires nodes { (1 ≤ nodes) × (nodes ≤ max_nodes) }
     ensures valid { P.is_problem problem.now }
     ensures begun { IfOk result (λ search. IsUnderway (P.meaning problem.now) nodes pass.capacity search []) }
     ensures stops { IfErr result (IsStop (P.meaning problem.now) nodes pass.capacity) }
@@ -86,14 +84,31 @@ fn begin<P: Problem>(
     Ok(search)
 }
 
-// One turn: the least entry's node is dropped, or expanded to a plan or to children.
+// Turn by turn, until no entry is left whose key is below the best cost.
+fn go_on<P: Problem>(
+    alloc: Global,
+    problem: &P,
+    search: &mut Search<P::Node, P::Plan>,
+    nodes: u32,
+) -> Result<(), Stop>
+    requires nodes { nodes ≤ max_nodes }
+    requires underway { IsUnderway (P.meaning problem.now) nodes search.old.pass.capacity search.old [] }
+    ensures over { IfOk result (λ _. IsOver (P.meaning problem.now) nodes search.old.pass.capacity
+        search.new.best search.new.pass.known) }
+    ensures stops { IfErr result (IsStop (P.meaning problem.now) nodes search.old.pass.capacity) }
+{
+    while let ControlFlow::Continue(()) = take_turn(alloc, problem, search, nodes)? {}
+    Ok(())
+}
+
+// One turn: the least entry's node is expanded to a plan or to children.
 fn take_turn<P: Problem>(
     alloc: Global,
     problem: &P,
     search: &mut Search<P::Node, P::Plan>,
     nodes: u32,
 ) -> Result<ControlFlow<()>, Stop>
-    requires nodes { nodes ≤ 1048560 }
+    requires nodes { nodes ≤ max_nodes }
     requires underway { IsUnderway (P.meaning problem.now) nodes search.old.pass.capacity search.old [] }
     ensures turn { IfOk result (λ flow. IsTurn (P.meaning problem.now) nodes search.old.pass.capacity search.old flow search.new) }
     ensures stops { IfErr result (IsStop (P.meaning problem.now) nodes search.old.pass.capacity) }
@@ -102,14 +117,10 @@ fn take_turn<P: Problem>(
     let Some(child) = search.take() else {
         return Ok(ControlFlow::Break(()));
     };
-    let best = search.best_cost();
-    if !is_below(child.key, best) {
-        return Ok(ControlFlow::Continue(()));
-    }
     match problem.expand(alloc, child.node)? {
         Step::Leaf(plan) => {
             let cost = problem.cost(&plan);
-            if is_below(cost, best) {
+            if is_below(cost, search.best_cost()) {
                 search.best = Some(Found { plan, cost });
             }
         }
@@ -125,7 +136,7 @@ fn branch<P: Problem>(
     children: Vec<P::Node>,
     nodes: u32,
 ) -> Result<(), Stop>
-    requires nodes { nodes ≤ 1048560 }
+    requires nodes { nodes ≤ max_nodes }
     requires underway { (waiting : List (List ℕ)) × StandAt (P.meaning problem.now).stands children.items waiting
         × IsUnderway (P.meaning problem.now) nodes search.old.pass.capacity search.old waiting }
     ensures calls { IfOk result (λ _. length search.old.pass.known.calls ≤ length search.new.pass.known.calls) }
@@ -144,7 +155,7 @@ fn branch<P: Problem>(
     Ok(())
 }
 
-// The outcome of a search whose queue is empty: its best plan.
+// The outcome of a search that is over: its best plan.
 fn finish<N: Drop, P: Drop>(search: Search<N, P>) -> Outcome<P>
     requires { IsSome search.best }
     ensures { result ≡ best_outcome search.best }

@@ -1,19 +1,15 @@
 //! The state of a search with one caller, and its two steps on the queue and the store.
 
-ghost use Rattle.std.specs.Prelude.{◌≡◌, ℕ, [], ◌-◌, ◌^◌, ◌<◌, length, All, IfOk, IfErr, MatchOption, IsTrue, ◌↔◌};
+ghost use Rattle.std.specs.Prelude.{◌≡◌, ℕ, ◌-◌, ◌<◌, ◌≤◌, length, All, IfOk, IfErr, MatchOption};
+ghost use Rattle.pq_words.specs.Limits.{key_limit, id_limit};
+ghost use Rattle.pq_api.specs.Limits.{call_limit};
 ghost use Rattle.pq_api.specs.Plain.{held};
 
 use crate::child::Child;
+use crate::found::Found;
 use crate::outcome::Stop;
-use pq_api::{Inserted, PlainPass, Removed, one_seat_has_made_all};
-use pq_words::Entry;
-
-/// A plan that a leaf gave, with its cost.
-#[derive(Drop)]
-pub(crate) struct Found<P> {
-    pub(crate) plan: P,
-    pub(crate) cost: u32,
-}
+use pq_api::{Below, Inserted, PlainPass, one_seat_has_made_all};
+use pq_words::{Entry, KEY_LIMIT};
 
 /// A search with one caller: the queue's pass, the nodes made so far by number, each until it is taken, the
 /// children kept of the branch at hand, and the best plan so far.
@@ -26,7 +22,8 @@ pub(crate) struct Search<N, P> {
 }
 
 impl<N: Drop, P: Drop> Search<N, P> {
-    ghost use Rattle.bb_pool.specs.Underway.{cost_so_far, IsPut, IsNotPut, IsStored, IsTaken};
+    ghost use Rattle.bb_pool.specs.Costs.{limit_of};
+    ghost use Rattle.bb_pool.specs.Underway.{cost_so_far, IsPut, IsNotPut, IsStored, IsTaken, IsSpent};
 
     /// The cost of the best plan so far.
     pub(crate) fn best_cost(&self) -> Option<u32>
@@ -38,10 +35,21 @@ impl<N: Drop, P: Drop> Search<N, P> {
         }
     }
 
+    /// What the keys of nodes that are worth a look are below.
+    fn limit(&self) -> u32
+        ensures limit { result ≡ limit_of (cost_so_far self.now.best) }
+        ensures within { result ≤ key_limit }
+    {
+        match &self.best {
+            Some(found) => found.cost,
+            None => KEY_LIMIT,
+        }
+    }
+
     /// Gives the child the next number, puts it into the store under it, and inserts an entry for it.
     pub(crate) fn put(&mut self, child: Child<N>) -> Result<(), Stop>
-        requires few { length self.old.store.items < 2 ^ 22 }
-        requires calls { length self.old.pass.known.calls < 2 ^ 25 - 1 }
+        requires few { length self.old.store.items < id_limit }
+        requires calls { length self.old.pass.known.calls < call_limit - 1 }
         requires number { self.old.pass.known.number ≡ 1 }
         ensures put { IfOk result (λ _. IsPut self.old child self.new) }
         ensures refused { IfErr result (IsNotPut self.old) }
@@ -62,21 +70,22 @@ impl<N: Drop, P: Drop> Search<N, P> {
         }
     }
 
-    /// Removes the least entry and takes its node out of the store, or gives `None` where there is no entry.
+    /// Removes the least entry and takes its node out of the store, where its key is below the best cost, and
+    /// gives `None` where there is no such entry.
     pub(crate) fn take(&mut self) -> Option<Child<N>>
         requires stored { All (IsStored self.old.store.items) (held self.old.pass) }
-        requires calls { length self.old.pass.known.calls < 2 ^ 25 - 1 }
-        ensures { MatchOption result ((held self.old.pass ≡ []) × (self.new.best ≡ self.old.best))
-            (λ child. IsTaken self.old child self.new) }
+        requires calls { length self.old.pass.known.calls < call_limit - 1 }
+        ensures { MatchOption result (IsSpent self.old self.new) (λ child. IsTaken self.old child self.new) }
     {
-        match self.pass.take() {
-            Removed::Got(e, _) => {
+        let limit = self.limit();
+        match self.pass.take_below(limit) {
+            Below::Got(e, _) => {
                 let Some(node) = self.store[e.id as usize].take() else {
                     unreachable!()
                 };
                 Some(Child { key: e.key, node })
             }
-            Removed::Empty(_) => None,
+            Below::Empty(_) | Below::Above(_) => None,
         }
     }
 }

@@ -1,6 +1,7 @@
 -- What a problem means to a search, and the laws that it owes.
-use Rattle.std.specs.Prelude.{ℕ, ◌≡◌, ◌≢◌, ◌≤◌, ◌<◌, ◌^◌, List, [], length, nat_eq, Contains}
+use Rattle.std.specs.Prelude.{ℕ, ◌≡◌, ◌≢◌, ◌≤◌, ◌<◌, List, [], length, nat_eq, Contains}
 use Rattle.std.specs.List.{IsDistinct}
+use Rattle.bb_problem.specs.Limits.{size_limit}
 use Rattle.bb_problem.specs.Tree.{Tree, below, node_count}
 
 -- Plans of a type `P`, their costs, and the tree of nodes of a type `N` that a search goes through. A node has a
@@ -12,7 +13,7 @@ pub record Meaning (N P : Type 0) : Type 1 where
   -- the least cost of a feasible plan
   pub least : ℕ
   pub tree : Tree
-  -- a number that the tree's nodes do not exceed where it is below 2^64
+  -- a number that the tree's nodes do not exceed where it is below `size_limit`, 2^64
   pub tree_size : ℕ
   -- the node belongs to the problem, under this name
   pub stands : N → List ℕ → Type 0
@@ -34,4 +35,4 @@ pub record IsLawful {N P : Type 0} (m : Meaning N P) : Type 0 where
   -- there is a feasible plan of least cost
   pub attained : (plan : P) × m.is_feasible plan × (m.cost_of plan ≡ m.least)
   pub least_of_all : (plan : P) → m.is_feasible plan → m.least ≤ m.cost_of plan
-  pub counted : m.tree_size < 2 ^ 64 → node_count m.tree ≤ m.tree_size
+  pub counted : m.tree_size < size_limit → node_count m.tree ≤ m.tree_size

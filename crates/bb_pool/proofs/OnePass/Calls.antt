@@ -1,24 +1,26 @@
 -- What a call of the queue did, said of a search's fields.
-use Rattle.std.proofs.Common.{◌≡◌, ℕ, ◌+◌, ◌<◌, List, [], ◌∷◌, ◌++◌, length, get_or, set, Some, None, Option, refl, sym, ap, ◌∙◌, subst, arith}
-use Rattle.std.specs.Prelude.{slice_get, All}
+use Rattle.std.proofs.Common.{◌≡◌, ℕ, ◌+◌, ◌<◌, ◌≤◌, List, [], ◌∷◌, ◌++◌, length, get_or, set, Some, None, Option, refl, sym, ap, ◌∙◌, subst, arith}
+use Rattle.std.specs.Prelude.{slice_get, All, IfSome, IsSomeAnd}
 use Rattle.std.proofs.lemmas.Option.{get_or_from_slice_get}
 use Rattle.std.proofs.lemmas.List.{length-append}
 use Rattle.std.proofs.lemmas.List.Elements.{All-head}
 use Rattle.pq_words.specs.declared.entries.Entry.{Entry}
 use Rattle.pq_model.specs.declared.marks.Act.{Act}
-use Rattle.pq_model.specs.declared.marks.Act.TheVariants.{Insert, Remove}
+use Rattle.pq_model.specs.declared.marks.Act.TheVariants.{Insert, RemoveBelow}
 use Rattle.pq_model.specs.declared.marks.Reply.{Reply}
 use Rattle.pq_model.specs.declared.marks.Reply.TheVariants.{Done, Got}
 use Rattle.pq_model.specs.declared.passes.Known.{Known}
 use Rattle.pq_model.specs.Multiset.{add, least, without_least}
-use Rattle.pq_model.specs.Passes.{call, fresh, with_call}
+use Rattle.pq_model.specs.Passes.{call, Knows, fresh, with_call}
 use Rattle.pq_model.proofs.Multisets.{with_least}
 use Rattle.pq_api.specs.Plain.{held, marks_of}
 use Rattle.pq_model.specs.History.{left}
 use Rattle.bb_problem.specs.Meaning.{Meaning, IsLawful}
 use Rattle.bb_pool.specs.declared.child.Child.{Child}
 use Rattle.bb_pool.specs.declared.state.Search.{Search}
-use Rattle.bb_pool.specs.Underway.{cost_so_far, IsFound, IsUnderway, IsPut, IsStored, IsTaken}
+use Rattle.bb_pool.specs.Costs.{limit_of}
+use Rattle.bb_pool.specs.Endings.{EndsAt}
+use Rattle.bb_pool.specs.Underway.{cost_so_far, IsFound, IsUnderway, IsPut, IsStored, IsTaken, IsSpent}
 use Rattle.bb_pool.proofs.Searches.{root_waits}
 use Rattle.bb_pool.proofs.OnePass.Turns.{same_search}
 
@@ -41,19 +43,43 @@ put_made {before} {now} e place room called added key id stored capacity best ke
   kept = kept;
 }
 
-pub take_made : {N P : Type 0} {before now : Search N P} {child : Child N} (e : Entry) (place : ℕ) → now.pass.known ≡ with_call before.pass.known place Remove (Got e) → least (held before.pass) ≡ Some e → held now.pass ≡ without_least (held before.pass) → child.key ≡ e.key
+pub take_made : {N P : Type 0} {before now : Search N P} {child : Child N} (e : Entry) (place limit : ℕ) → limit ≡ limit_of (cost_so_far before.best) → e.key < limit → now.pass.known ≡ with_call before.pass.known place (RemoveBelow limit) (Got e) → least (held before.pass) ≡ Some e → held now.pass ≡ without_least (held before.pass) → child.key ≡ e.key
     → slice_get before.store.items e.id ≡ Some (Some child.node) → now.store.items ≡ set before.store.items e.id None → now.pass.capacity ≡ before.pass.capacity → now.best ≡ before.best → IsTaken before child now
-take_made {before} {now} e place called first rest key node emptied capacity best = record {
+take_made {before} {now} e place limit is below called first rest key node emptied capacity best = record {
   entry = e;
   key = key;
+  better = omega arith;
   first = with_least (held before.pass) e first ∙ ap (λ (l : List Entry). e ∷ l) (sym rest);
   node = node;
   emptied = emptied;
-  calls = one_more before.pass.known now.pass.known place Remove (Got e) called;
+  calls = one_more before.pass.known now.pass.known place (RemoveBelow limit) (Got e) called;
   number = ap (λ (k : Known). k.number) called;
   capacity = capacity;
   best = best;
 }
+
+-- no entry was left below the limit
+pub spent_made : {N P : Type 0} {before now : Search N P} (place limit : ℕ) (reply : Reply) → limit ≡ limit_of (cost_so_far before.best) → now.pass.known ≡ with_call before.pass.known place (RemoveBelow limit) reply → held now.pass ≡ held before.pass
+    → IfSome (least (held before.pass)) (λ (e : Entry). limit ≤ e.key) → Knows 1 before.pass.capacity now.pass.known → now.best ≡ before.best → IsSpent before now
+spent_made {before} {now} place limit reply is called same high knows best = record {
+  same = same;
+  ended = λ one. subst (λ (l : ℕ). EndsAt before.pass.capacity l now.pass.known) is (record {
+    number = ap (λ (k : Known). k.number) called ∙ one;
+    knows = knows;
+    asked = (before.pass.known.calls, place, reply, ap (λ (k : Known). k.calls) called);
+    at_least = subst (λ (m : List Entry). IfSome (least m) (λ (e : Entry). limit ≤ e.key)) (sym same) high;
+  });
+  best = best;
+}
+
+-- the least entry, if there is one, is at least the limit
+pub none_below : (limit : ℕ) (m : List Entry) → m ≡ [] → IfSome (least m) (λ (e : Entry). limit ≤ e.key)
+none_below limit [] none = tt
+none_below limit (x ∷ xs) none = absurd (cc)
+
+pub least_above : (limit : ℕ) (m : List Entry) → IsSomeAnd (least m) (λ (e : Entry). limit ≤ e.key) → IfSome (least m) (λ (e : Entry). limit ≤ e.key)
+least_above limit [] above = tt
+least_above limit (x ∷ xs) above = above
 
 -- a search whose queue has had no call yet, with the root still to be put
 pub begun : {N P : Type 0} {m : Meaning N P} (nodes : ℕ) (before : Search N P) → IsLawful m → before.pass.known ≡ fresh 1 → before.store.items ≡ [] → before.best ≡ None

@@ -1,13 +1,17 @@
 -- The turns of a search with one caller, by its fields.
-use Rattle.std.proofs.Common.{◌≡◌, ℕ, ◌+◌, ◌^◌, ◌<◌, ◌≤◌, true, false, List, [], ◌∷◌, ◌++◌, length, map, set, Some, None, Option, refl, sym, ap, ◌∙◌, subst, inl, inr, arith}
-use Rattle.std.specs.Prelude.{All, IsTrue, IsSome}
+use Rattle.std.proofs.Common.{◌≡◌, ℕ, ◌+◌, ◌<◌, ◌≤◌, true, false, List, [], ◌∷◌, ◌++◌, length, map, set, Some, None, Option, refl, sym, ap, ◌∙◌, subst, inl, inr, arith}
+use Rattle.std.specs.Prelude.{All, IsTrue, IsSome, IfSome}
 use Rattle.std.proofs.lemmas.Bool.{cases_lt}
 use Rattle.std.proofs.lemmas.List.{length-append, length-set}
-use Rattle.std.proofs.lemmas.List.Elements.{All-nil, All-head, All-weaker}
+use Rattle.std.proofs.lemmas.List.Elements.{All-nil, All-cons, All-head, All-weaker}
 use Rattle.pq_words.specs.declared.entries.Entry.{Entry}
-use Rattle.pq_model.specs.Multiset.{IsRising}
+use Rattle.pq_words.specs.Limits.{key_limit}
+use Rattle.pq_words.specs.Entries.{raw_of}
+use Rattle.pq_model.specs.declared.passes.Known.{Known}
+use Rattle.pq_model.specs.Multiset.{least, IsRising}
 use Rattle.pq_model.proofs.Multisets.{length-add}
 use Rattle.pq_api.specs.Plain.{held}
+use Rattle.bb_problem.specs.Limits.{size_limit}
 use Rattle.bb_problem.specs.Tree.{below, needed}
 use Rattle.bb_problem.specs.Meaning.{Meaning, IsLawful}
 use Rattle.bb_problem.specs.declared.step.Step.{Step}
@@ -18,17 +22,19 @@ use Rattle.std.specs.declared.alloc.Global.{Global}
 use Rattle.bb_pool.specs.declared.outcome.Stop.{Stop}
 use Rattle.bb_pool.specs.declared.outcome.Stop.TheVariants.{NodeLimit, Full, NoMemory}
 use Rattle.bb_pool.specs.declared.child.Child.{Child}
-use Rattle.bb_pool.specs.declared.state.Found.{Found}
+use Rattle.bb_pool.specs.declared.found.Found.{Found}
 use Rattle.bb_pool.specs.declared.state.Search.{Search}
-use Rattle.bb_pool.specs.Costs.{is_better, IsAtLeast}
+use Rattle.bb_pool.specs.Limits.{max_nodes}
+use Rattle.bb_pool.specs.Costs.{is_better, limit_of, IsAtLeast}
+use Rattle.bb_pool.specs.Endings.{EndsAt}
 use Rattle.bb_pool.specs.Outcomes.{IsStop, IsOutcome, IfNodeLimit, outcome_of}
 use Rattle.bb_pool.specs.Children.{StandAt, better_names}
 use Rattle.bb_pool.specs.Searching.{name_at, StandsFor, IsSearching}
-use Rattle.bb_pool.specs.Underway.{cost_so_far, IsFound, IsUnderway, IsPut, IsNotPut, IsStored, IsTaken, IsOver, best_outcome}
-use Rattle.bb_pool.proofs.Costs.{better_below, not_better, not_below_itself, below_better}
-use Rattle.bb_pool.proofs.Needs.{unavoidable_leaf, unavoidable_high, open_leaf}
-use Rattle.bb_pool.proofs.Counts.{ahead_dropped, ahead_found, all_made}
-use Rattle.bb_pool.proofs.Searches.{node_put, node_closed, key_at_most_least, node_branched, better_kept, some_best, best_is_least}
+use Rattle.bb_pool.specs.Underway.{cost_so_far, IsFound, IsUnderway, IsPut, IsNotPut, IsStored, IsTaken, IsSpent, IsOver, best_outcome}
+use Rattle.bb_pool.proofs.Costs.{better_below, not_below_itself, below_better, below_limit, from_limit}
+use Rattle.bb_pool.proofs.Needs.{unavoidable_leaf, open_leaf}
+use Rattle.bb_pool.proofs.Counts.{ahead_dropped, ahead_found}
+use Rattle.bb_pool.proofs.Searches.{node_put, node_closed, key_le, key_at_most_least, node_branched, better_kept, some_best, best_is_least, around_is_made}
 
 -- the same search, by equal parts
 pub same_search : {N P : Type 0} {m : Meaning N P} {capacity : ℕ} {names : List (List ℕ)} {entries entries' : List Entry} {store store' : List (Option N)} {waiting : List (List ℕ)} {best best' : Option ℕ}
@@ -115,21 +121,6 @@ unchanged {N} {P} {m} {nodes} {capacity} {now} {waiting} t u = subst (λ (b : Op
 before_taken : {N P : Type 0} {before now : Search N P} {child : Child N} (v : ℕ) (b : _) → IsTaken before child now → is_better v (cost_so_far now.best) ≡ b → is_better v (cost_so_far before.best) ≡ b
 before_taken v b t is = subst (λ f. is_better v (cost_so_far f) ≡ b) t.best is
 
--- the node was dropped
-pub dropped : {N P : Type 0} {m : Meaning N P} {nodes capacity : ℕ} {before now : Search N P} (child : Child N)
-    → IsUnderway m nodes capacity before [] → IsTaken before child now → is_better child.key (cost_so_far now.best) ≡ false
-    → IsUnderway m nodes capacity now []
-dropped {m} {nodes} {capacity} {before} {now} child u t worse =
-    let bad : is_better child.key (cost_so_far before.best) ≡ false = before_taken child.key false t worse in
-    let name : List ℕ = name_at u.names t.entry.id in
-    let keyed : child.key ≡ m.tree.bound name = taken_keyed u t in
-    let high : m.least ≤ child.key = not_better m.least child.key (cost_so_far before.best) (found_above before.best u.lawful u.found) bad in
-    let zero = unavoidable_high m.tree m.least name (omega arith) in
-    unchanged t (taken_underway [] before.best u t u.found
-    (node_closed t.entry (cost_so_far before.best) (taken_searching u t) (λ v better. better)
-    (λ v r better. let bound = u.lawful.bounded name v r in let good = better_below child.key v (cost_so_far before.best) (omega arith) better in cc)
-    (omega arith) (ahead_dropped m.tree capacity u.names (held now.pass) t.entry child.key (cost_so_far before.best) bad (taken_searching u t).counted.ahead)))
-
 -- the expansion of the node that was taken, by its name
 taken_expands : {N P : Type 0} {m : Meaning N P} {nodes capacity : ℕ} {before now : Search N P} {child : Child N} {step was : Step P N}
     (u : IsUnderway m nodes capacity before []) → (t : IsTaken before child now) → ((name : List ℕ) → m.stands child.node name → IsExpanded m name was) → was ≡ step → IsExpanded m (name_at u.names t.entry.id) step
@@ -149,15 +140,15 @@ leaf_left {m} {nodes} {capacity} {before} {now} child plan cost step u t expande
     (unavoidable_leaf m.tree m.least name leaf.0) (ahead_dropped m.tree capacity u.names (held now.pass) t.entry cost (cost_so_far before.best) bad (taken_searching u t).counted.ahead)))
 
 -- the node was a leaf whose plan is better than the best
-pub leaf_found : {N P : Type 0} {m : Meaning N P} {nodes capacity : ℕ} {before now : Search N P} (child : Child N) (plan : P) (cost : ℕ) (step : Step P N)
+pub leaf_found : {N P : Type 0} {m : Meaning N P} {nodes capacity : ℕ} {before now : Search N P} (child : Child N) (plan : P) (cost : ℕ) (fits : cost < key_limit) (step : Step P N)
     → IsUnderway m nodes capacity before [] → IsTaken before child now → ((name : List ℕ) → m.stands child.node name → IsExpanded m name step) → step ≡ Leaf plan → cost ≡ m.cost_of plan → is_better cost (cost_so_far now.best) ≡ true
-    → IsUnderway m nodes capacity (record now { best = Some (record { plan = plan; cost = cost }) }) []
-leaf_found {m} {nodes} {capacity} {before} {now} child plan cost step u t expanded is same better =
+    → IsUnderway m nodes capacity (record now { best = Some (record { plan = plan; cost = cost; cost_fits = fits }) }) []
+leaf_found {m} {nodes} {capacity} {before} {now} child plan cost fits step u t expanded is same better =
     let name : List ℕ = name_at u.names t.entry.id in
     let leaf = taken_expands {step = Leaf plan} u t expanded is in
     let good : is_better cost (cost_so_far before.best) ≡ true = before_taken cost true t better in
     let s = taken_searching u t in
-    taken_underway [] (Some (record { plan = plan; cost = cost })) u t (leaf.1, same)
+    taken_underway [] (Some (record { plan = plan; cost = cost; cost_fits = fits })) u t (leaf.1, same)
     (node_closed t.entry (Some cost) s (λ v less. below_better cost v (cost_so_far before.best) good less)
     (λ v r less. not_below_itself cost v (let low = leaf.2 v r in omega arith) less)
     (unavoidable_leaf m.tree m.least name leaf.0) (ahead_found m.tree capacity u.names (held now.pass) t.entry (cost_so_far before.best) s.fits (open_leaf m.tree name leaf.0) s.counted.ahead))
@@ -175,13 +166,13 @@ some_below stands name (n ∷ ns) (k ∷ ks) all some = omega arith
 
 -- the node was a branch, whose children wait
 pub branched : {N P : Type 0} {m : Meaning N P} {nodes capacity : ℕ} {before now : Search N P} (child : Child N) (children : Vec N Global) (step : Step P N)
-    → IsUnderway m nodes capacity before [] → IsTaken before child now → IsRising (held before.pass) → is_better child.key (cost_so_far now.best) ≡ true
+    → IsUnderway m nodes capacity before [] → IsTaken before child now → IsRising (held before.pass)
     → ((name : List ℕ) → m.stands child.node name → IsExpanded m name step) → IsInRange m.cost_of step → step ≡ Branch children
     → (waiting : List (List ℕ)) × StandAt m.stands children.items waiting × IsUnderway m nodes capacity now waiting
-branched {m} {before} {now} child children step u t rising better expanded range is = let name : List ℕ = name_at u.names t.entry.id in
+branched {m} {before} {now} child children step u t rising expanded range is = let name : List ℕ = name_at u.names t.entry.id in
     let stand = taken_expands {step = Branch children} u t expanded is in
     let some = subst (IsInRange m.cost_of) is range in
-    let good : is_better child.key (cost_so_far before.best) ≡ true = before_taken child.key true t better in
+    let good : is_better child.key (cost_so_far before.best) ≡ true = below_limit child.key (cost_so_far before.best) t.better in
     let low = key_at_most_least (cost_so_far before.best) t.entry u.lawful (taken_searching u t) (subst IsRising t.first rising) (subst (λ (n : ℕ). IsTrue (is_better n (cost_so_far before.best))) t.key good) in
     let waiting : List (List ℕ) = map (below name) (m.tree.children name) in (
       waiting,
@@ -208,25 +199,47 @@ pub each_stored : {N P : Type 0} {m : Meaning N P} {nodes capacity : ℕ} {searc
     → IsUnderway m nodes capacity search waiting → All (IsStored search.store.items) (held search.pass)
 each_stored {m} {search} u = All-weaker (StandsFor m u.names search.store.items) (IsStored search.store.items) (λ e s. (s.node, s.stored)) (held search.pass) u.searching.each
 
--- an empty queue
-pub over : {N P : Type 0} {m : Meaning N P} {nodes capacity : ℕ} {search : Search N P} (best : Option (Found P))
-    → IsUnderway m nodes capacity search [] → held search.pass ≡ [] → best ≡ search.best → IsOver m nodes capacity best
-over None u empty is = some_best u.lawful (same_search empty refl (ap cost_so_far (sym is)) u.searching)
-over {m} {search} (Some found) u empty is = let f : IsFound m (Some found) = subst (IsFound m) (sym is) u.found in
-    let s = same_search empty refl (ap cost_so_far (sym is)) u.searching in
-    let made = all_made (All-nil (λ (e : Entry). m.least ≤ m.tree.bound (name_at u.names e.id))) s.counted in
-    let within = u.within in (
-      record { feasible_is = f.0; cost_is = f.1; least = λ other ok. best_is_least found.cost other u.lawful s ok },
-      record { for_nodes = omega arith; for_open = s.counted.ahead },
-    )
+-- where the least key is not below a limit, none is
+from_least : (cost : ℕ) (m : List Entry) → IsRising m → IfSome (least m) (λ (e : Entry). cost ≤ e.key) → All (λ (e : Entry). cost ≤ e.key) m
+from_least cost [] rising high = All-nil (λ (e : Entry). cost ≤ e.key)
+from_least cost (x ∷ xs) rising high = All-cons (λ (e : Entry). cost ≤ e.key) x xs high
+    (All-weaker (λ (y : Entry). raw_of x ≤ raw_of y) (λ (e : Entry). cost ≤ e.key) (λ y le. let more = key_le x y le in omega arith) xs rising.0)
 
-pub over_found : {N P : Type 0} (m : Meaning N P) (nodes capacity : ℕ) (best : Option (Found P)) → IsOver m nodes capacity best → IsSome best
-over_found m nodes capacity None is = absurd is
-over_found m nodes capacity (Some found) is = refl
+-- no entry was left below the best cost
+spent_keys : {N P : Type 0} {m : Meaning N P} {nodes capacity : ℕ} {before now : Search N P}
+    → IsUnderway m nodes capacity before [] → IsSpent before now → IsRising (held before.pass) → All (λ (e : Entry). is_better e.key (cost_so_far before.best) ≡ false) (held before.pass)
+spent_keys {before} {now} u t rising = let ended = t.ended u.number in let best : Option ℕ = cost_so_far before.best in
+    let high = subst (λ (es : List Entry). IfSome (least es) (λ (e : Entry). limit_of best ≤ e.key)) t.same ended.at_least in
+    All-weaker (λ (e : Entry). limit_of best ≤ e.key) (λ (e : Entry). is_better e.key best ≡ false) (λ e le. from_limit e.key best e.key_fits le) (held before.pass) (from_least (limit_of best) (held before.pass) rising high)
 
-pub over_outcome : {N P : Type 0} (m : Meaning N P) (nodes capacity : ℕ) (best : Option (Found P)) → IsOver m nodes capacity best → IsOutcome m nodes capacity (best_outcome best)
-over_outcome m nodes capacity None is = absurd is
-over_outcome m nodes capacity (Some found) is = is
+over_by : {N P : Type 0} {m : Meaning N P} {nodes capacity : ℕ} {before : Search N P} (best : Option (Found P)) (known : Known)
+    → IsUnderway m nodes capacity before [] → best ≡ before.best → All (λ (e : Entry). is_better e.key (cost_so_far best) ≡ false) (held before.pass) → EndsAt capacity (limit_of (cost_so_far best)) known → IsOver m nodes capacity best known
+over_by None known u is none ended = some_best u.lawful (same_search refl refl (ap cost_so_far (sym is)) u.searching) none
+over_by {m} {before} (Some found) known u is none ended = let f : IsFound m (Some found) = subst (IsFound m) (sym is) u.found in
+    let s = same_search refl refl (ap cost_so_far (sym is)) u.searching in
+    let made = around_is_made (Some found.cost) (found_above (Some found) u.lawful f) s none in
+    let within = u.within in
+    record {
+      optimal = record { feasible_is = f.0; cost_is = f.1; least = λ other ok. best_is_least found.cost other u.lawful s none ok };
+      limits = record { for_nodes = omega arith; for_open = s.counted.ahead };
+      ended = ended;
+    }
+
+-- the search is over
+pub over : {N P : Type 0} (m : Meaning N P) (nodes capacity : ℕ) (before now : Search N P)
+    → IsUnderway m nodes capacity before [] → IsSpent before now → IsRising (held before.pass) → IsOver m nodes capacity now.best now.pass.known
+over m nodes capacity before now u t rising =
+    let ended = subst (λ (c : ℕ). EndsAt c (limit_of (cost_so_far before.best)) now.pass.known) u.capacity_is (t.ended u.number) in
+    over_by now.best now.pass.known u t.best (subst (λ b. All (λ (e : Entry). is_better e.key (cost_so_far b) ≡ false) (held before.pass)) (sym t.best) (spent_keys u t rising))
+    (subst (λ b. EndsAt capacity (limit_of (cost_so_far b)) now.pass.known) (sym t.best) ended)
+
+pub over_found : {N P : Type 0} (m : Meaning N P) (nodes capacity : ℕ) (best : Option (Found P)) (known : Known) → IsOver m nodes capacity best known → IsSome best
+over_found m nodes capacity None known is = absurd is
+over_found m nodes capacity (Some found) known is = refl
+
+pub over_outcome : {N P : Type 0} (m : Meaning N P) (nodes capacity : ℕ) (best : Option (Found P)) (known : Known) → IsOver m nodes capacity best known → IsOutcome m nodes capacity (best_outcome best)
+over_outcome m nodes capacity None known is = absurd is
+over_outcome m nodes capacity (Some found) known is = (known, is)
 
 -- the same search, by an equal capacity
 pub same_capacity : {N P : Type 0} {m : Meaning N P} {nodes capacity other : ℕ} {search : Search N P} {waiting : List (List ℕ)}
@@ -234,9 +247,9 @@ pub same_capacity : {N P : Type 0} {m : Meaning N P} {nodes capacity other : ℕ
 same_capacity {m} {nodes} {search} {waiting} is u = subst (λ (c : ℕ). IsUnderway m nodes c search waiting) is u
 
 -- a limit that is asked to be passed is below the size of the tree
-pub stop_below_size : {N P : Type 0} (m : Meaning N P) (nodes capacity : ℕ) (stop : Stop) → IsStop m nodes capacity stop → (m.tree_size < 2 ^ 64 → needed m.tree m.least ≤ m.tree_size) → nodes ≤ 1048560
+pub stop_below_size : {N P : Type 0} (m : Meaning N P) (nodes capacity : ℕ) (stop : Stop) → IsStop m nodes capacity stop → (m.tree_size < size_limit → needed m.tree m.least ≤ m.tree_size) → nodes ≤ max_nodes
     → IfNodeLimit {P = P} (outcome_of stop nodes) (λ asked limit. limit < m.tree_size)
-stop_below_size m nodes capacity (NodeLimit asked) is sized few = elim (cases_lt m.tree_size (2 ^ 64)) [
+stop_below_size m nodes capacity (NodeLimit asked) is sized few = elim (cases_lt m.tree_size size_limit) [
   | inl small ↦ let enough = sized small in let over = is.over in let within = is.within in omega arith
   | inr large ↦ omega arith
 ]
