@@ -9,19 +9,12 @@ use Rattle.bb_shop.specs.Dispatching.{state_of}
 use Rattle.bb_shop.specs.Bounds.{root_bound}
 use Rattle.bb_shop.specs.Judging.{times_at}
 use Rattle.bb_shop.specs.TreeLawsHold.Bounded.{bounded}
-use Rattle.bb_shop.specs.TreeLawsHold.Ended.{end-le-row_end, row-le-rows_end}
+use Rattle.bb_shop.specs.TreeLawsHold.Ended.{length-times, end_within_makespan}
 use Rattle.bb_shop.specs.TreeLawsHold.Leaves.{leaf_is_feasible}
 use Rattle.bb_shop.specs.TreeLawsHold.Least.{goes_on}
 use Rattle.bb_shop.specs.TreeLawsHold.Reaching.{reached}
 use Rattle.bb_shop.specs.TreeLawsHold.Ready.{rows_starts, whole_within}
 use Rattle.bb_shop.specs.TreeLawsHold.States.{row-length}
-use Rattle.bb_shop.proofs.Rows.{length-times_at}
-
--- no operation ends after the makespan
-pub end_within_makespan : (s : JobShop) (starts : List (List ℕ)) (j k : ℕ) → IsJobShop s → AreShaped s starts → IsOperation s j k → end_at s starts j k ≤ makespan s starts
-end_within_makespan s starts j k shop shaped operation =
-    let row = end-le-row_end (row_at s.rows j) (times_at starts j) k (omega (arith, row-length s j shop operation.0, operation.1)) (omega (arith, length-times_at s starts j shaped operation.0, operation.1)) in
-    omega (arith, row, row-le-rows_end s.rows starts j operation.0 (omega (arith, shaped.rows, operation.0)))
 
 -- the operation of a row that ends last
 record Last (row : List Operation) (times : List ℕ) : Type 0 where
@@ -70,7 +63,7 @@ pub makespan_is_end : (s : JobShop) (starts : List (List ℕ)) → IsJobShop s �
 makespan_is_end s starts shop shaped =
     let row = last_row_in s.rows starts (omega (arith, shop.some_job)) (omega (arith, shop.some_job, shaped.rows)) in
     let count = row-length s row.job shop row.inside in
-    let last = last_in (row_at s.rows row.job) (times_at starts row.job) (omega (arith, count, shop.some_machine)) (omega (arith, length-times_at s starts row.job shaped row.inside, shop.some_machine)) in
+    let last = last_in (row_at s.rows row.job) (times_at starts row.job) (omega (arith, count, shop.some_machine)) (omega (arith, length-times s starts row.job shaped row.inside, shop.some_machine)) in
     (row.job, last.step, (row.inside, omega (arith, last.inside, count)), omega (arith, last.end, row.end))
 
 -- no feasible schedule ends before the bound of the root
@@ -90,5 +83,5 @@ best_starts_early s starts shop best =
     let shaped = best.feasible.shaped in
     rows_starts total_limit starts (λ j k row step.
     let job : j < length s.rows = omega (arith, row, shaped.rows) in
-    let within : k < s.machines = omega (arith, step, length-times_at s starts j shaped job) in
+    let within : k < s.machines = omega (arith, step, length-times s starts j shaped job) in
     omega (arith, end_within_makespan s starts j k shop shaped (job, within), best_within s starts shop best))

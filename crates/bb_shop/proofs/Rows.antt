@@ -2,13 +2,13 @@
 use Rattle.std.proofs.Common.{◌≡◌, ℕ, zero, suc, ◌+◌, ◌<◌, ◌≤◌, max, List, [], ◌∷◌, refl, ap, ◌∙◌, sym, length, map, drop, get_or, min, arith}
 use Rattle.std.specs.List.{AllByRecursion}
 use Rattle.std.proofs.lemmas.List.{drop_more, get_or-map, length-map}
-use Rattle.std.proofs.lemmas.List.Elements.{All-from_recursion}
 use Rattle.inst_text.specs.Limits.{total_limit}
 use Rattle.inst_text.specs.declared.shop.Operation.{Operation}
 use Rattle.inst_text.specs.Shop.{JobShop, IsJobShop, AreStarts, row_time, rows_time}
 use Rattle.bb_shop.specs.Plans.{step_at, row_at, row_end, rows_end, AreShaped}
 use Rattle.bb_shop.specs.Judging.{times_at, AreTimed}
 use Rattle.bb_shop.specs.TreeLawsHold.States.{row-length}
+use Rattle.bb_shop.specs.TreeLawsHold.Ended.{length-times}
 
 -- what is read of a list of vectors is the row there
 pub read_row : {V A : Type 0} (vs : List V) (items : V → List A) (rows : List (List A)) (i : ℕ) (v : V) (r : List A) → map items vs ≡ rows → i < length vs → v ≡ get_or vs i v → r ≡ items v → r ≡ get_or rows i []
@@ -43,15 +43,10 @@ starts-early [] (suc j) early = tt
 starts-early (r ∷ rs) zero early = early.0
 starts-early (r ∷ rs) (suc j) early = starts-early rs j early.1
 
--- a job has as many start times as there are machines
-pub length-times_at : (s : JobShop) (starts : List (List ℕ)) (j : ℕ) → AreShaped s starts → j < length s.rows → length (times_at starts j) ≡ s.machines
-length-times_at s starts j shaped inside =
-    All-from_recursion (λ (row : List ℕ). length row ≡ s.machines) starts shaped.times j [] (omega (arith, shaped.rows))
-
 -- a job's row and start times are within the limits
 pub are_timed : (s : JobShop) (starts : List (List ℕ)) (j : ℕ) → IsJobShop s → AreStarts starts → AreShaped s starts → j < length s.rows → AreTimed (row_at s.rows j) (times_at starts j)
 are_timed s starts j limits early shaped inside = record {
-  count = omega (arith, row-length s j limits inside, length-times_at s starts j shaped inside);
+  count = omega (arith, row-length s j limits inside, length-times s starts j shaped inside);
   limited = omega (arith, row_time-le s.rows j, limits.times);
   early = starts-early starts j early;
 }

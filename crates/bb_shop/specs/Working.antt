@@ -6,6 +6,8 @@ use Rattle.inst_text.specs.Limits.{total_limit}
 use Rattle.bb_shop.specs.Plans.{row_at, operation_at}
 use Rattle.bb_shop.specs.Dispatching.{State, number_in, starts_of, state_of, IsOrder}
 use Rattle.bb_shop.specs.Bounds.{Load, finish, job_load, machine_bound, greatest, all_joined, each_from}
+use Rattle.bb_shop.specs.declared.booking.Booking.{Booking}
+use Rattle.bb_shop.specs.Judging.{booked}
 use Rattle.bb_shop.specs.Branching.{Node, jobs_left}
 
 -- no number is above this one
@@ -53,6 +55,10 @@ left_in machines steps = jobs_left machines 0 (rows_of steps)
 -- the operation that the job comes to next
 abbrev pub coming : JobShop → Node → ℕ → Operation
 coming s node j = operation_at s j (number_in node.steps j)
+
+-- when it needs its machine: once the job and the machine are ready
+abbrev pub next_at : JobShop → Node → ℕ → Booking
+next_at s node j = booked (coming s node j) (max (number_in node.jobs j) (number_in node.machines (coming s node j).machine))
 
 -- when it ends, or the limit of all times where that is less
 abbrev pub ending : Node → Operation → ℕ → ℕ

@@ -6,11 +6,12 @@ ghost use Rattle.bb_shop.specs.Judging.{booked, Collide};
 use inst_text::Operation;
 
 /// When an operation that has a start time needs its machine.
-#[derive(Clone, Copy)]
+#[derive(Clone, Copy, Debug)]
 pub struct Booking {
-    machine: u32,
-    start: u32,
-    end: u32,
+    pub machine: u32,
+    pub start: u32,
+    /// Its start and its time together.
+    pub end: u32,
 }
 
 impl Booking {

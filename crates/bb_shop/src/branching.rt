@@ -6,8 +6,9 @@ ghost use Rattle.bb_problem.specs.Expanding.{StandBelow};
 ghost use Rattle.bb_shop.specs.Plans.{makespan};
 ghost use Rattle.bb_shop.specs.Dispatching.{state_of};
 ghost use Rattle.bb_shop.specs.Branching.{Stands};
-ghost use Rattle.bb_shop.specs.Working.{FitTo, IsLeftAt, left_in, child_of};
+ghost use Rattle.bb_shop.specs.Working.{FitTo, IsLeftAt, left_in, next_at, child_of};
 
+use crate::booking::Booking;
 use crate::node::ShopNode;
 use crate::planning::plan;
 use crate::shop::Shop;
@@ -53,6 +54,18 @@ impl Shop {
         ensures left { All (IsLeftAt self.now node.now) result.items }
     {
         left(node.steps(), self.machine_count())
+    }
+
+    /// When a job's next operation needs its machine at a node: once the job and the machine are ready. Constant
+    /// time.
+    pub fn next(&self, node: &ShopNode, job: usize) -> Booking
+        requires fit { FitTo self.now node.now.steps node.now.jobs node.now.machines }
+        requires left { IsLeftAt self.now node.now job }
+        ensures { result ≡ next_at self.now node.now job }
+    {
+        let operation = self.operation(job, node.steps()[job] as usize);
+        let machine = node.machines()[operation.machine as usize];
+        Booking::new(operation, node.jobs()[job].max(machine))
     }
 
     /// The children of a node that dispatch these jobs' next operations, one for each job. Each takes one piece of

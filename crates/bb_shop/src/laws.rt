@@ -28,7 +28,7 @@ pub fn bounds_are_within()
 {}
 
 /// Law: the makespan is the greatest end: no operation ends after it, and some operation ends at it.
-#[tactic(auto, using(crate::proofs::Ends::end_within_makespan, crate::proofs::Ends::makespan_is_end))]
+#[tactic(auto, using(crate::specs::TreeLawsHold::Ended::end_within_makespan, crate::proofs::Ends::makespan_is_end))]
 pub fn makespan_is_greatest_end()
     ensures at_least { (s : JobShop) (starts : List (List ℕ)) (j k : ℕ) → IsJobShop s → AreShaped s starts
         → IsOperation s j k → end_at s starts j k ≤ makespan s starts }

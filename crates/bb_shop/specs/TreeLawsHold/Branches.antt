@@ -5,7 +5,7 @@ use Rattle.std.specs.List.{IsDistinct}
 use Rattle.std.proofs.lemmas.Bool.{cases_lt}
 use Rattle.std.proofs.lemmas.List.{append_assoc, append-nil, length-append, nil_from_length}
 use Rattle.std.proofs.Math.Nat.{mul-le-mul, mul-add, mul_comm, pow-suc, pow-zero}
-use Rattle.bb_problem.specs.Tree.{below, total, nodes_from, node_count}
+use Rattle.bb_problem.specs.Tree.{Tree, below, total, nodes_from, node_count}
 use Rattle.inst_text.specs.Shop.{JobShop, operations, IsJobShop}
 use Rattle.bb_shop.specs.Dispatching.{opened, state_of, IsLeft, IsOrder}
 use Rattle.bb_shop.specs.Branching.{children_of, tree_of, powers, tree_size, order_cost, Reaches}
@@ -56,15 +56,19 @@ powers-suc : (n k : ℕ) → powers n (suc k) ≡ 1 + n * powers n k
 powers-suc n zero = omega (arith, pow-suc n 0, ap (λ p. p * n) (pow-zero n))
 powers-suc n (suc k) = omega (arith, powers-suc n k, pow-suc n (suc k), mul-add n (powers n k) (n ^ suc k), mul_comm n (n ^ suc k))
 
-node_count-within : (s : JobShop) (more : ℕ) (name : List ℕ) → nodes_from (tree_of s) more name ≤ powers (length s.rows) more
-node_count-within s zero name = omega arith
-node_count-within s (suc more) name =
-    let each = total-le (λ k. nodes_from (tree_of s) more (below name k)) (powers (length s.rows) more) (λ k. node_count-within s more (below name k)) (children_of s name) in
-    let few : length (children_of s name) * powers (length s.rows) more ≤ length s.rows * powers (length s.rows) more = mul-le-mul (length-children s name) (omega arith) in
-    omega (arith, each, few, powers-suc (length s.rows) more)
+node_count-within : (t : Tree) (n : ℕ) → ((name : List ℕ) → length (t.children name) ≤ n) → (more : ℕ) (name : List ℕ) → nodes_from t more name ≤ powers n more
+node_count-within t n few zero name = omega arith
+node_count-within t n few (suc more) name =
+    let each = total-le (λ k. nodes_from t more (below name k)) (powers n more) (λ k. node_count-within t n few more (below name k)) (t.children name) in
+    let within : length (t.children name) * powers n more ≤ n * powers n more = mul-le-mul (few name) (omega arith) in
+    omega (arith, each, within, powers-suc n more)
 
 under_min : (a b n : ℕ) → min a b < b → n ≤ a → n ≤ min a b
 under_min a b n lt le = omega (arith, lt, le)
 
+-- a tree has no more nodes than the powers of the number of children that a node has at most add up to
+pub few_nodes : (t : Tree) (n : ℕ) → ((name : List ℕ) → length (t.children name) ≤ n) → min (powers n t.height) (2 ^ 64) < 2 ^ 64 → node_count t ≤ min (powers n t.height) (2 ^ 64)
+few_nodes t n few small = under_min (powers n t.height) (2 ^ 64) (node_count t) small (node_count-within t n few t.height [])
+
 pub counted : (s : JobShop) → IsJobShop s → tree_size s < 2 ^ 64 → node_count (tree_of s) ≤ tree_size s
-counted s shop small = under_min (powers (length s.rows) (operations s)) (2 ^ 64) (node_count (tree_of s)) small (node_count-within s (operations s) [])
+counted s shop small = few_nodes (tree_of s) (length s.rows) (length-children s) small

@@ -1,11 +1,12 @@
 -- Proofs of the laws of the bounds: the makespan does not fall where an operation is dispatched, and no job or
 -- machine is ready after it. They define nothing that a contract says.
-use Rattle.std.proofs.Common.{ℕ, zero, suc, ◌+◌, ◌<◌, ◌≤◌, List, [], ◌∷◌, ◌++◌, inl, inr, refl, length, get_or, set, arith}
+use Rattle.std.proofs.Common.{◌≡◌, ℕ, zero, suc, ◌+◌, ◌<◌, ◌≤◌, List, [], ◌∷◌, ◌++◌, inl, inr, refl, length, get_or, set, arith}
 use Rattle.std.proofs.lemmas.Bool.{cases_eq}
 use Rattle.std.proofs.lemmas.List.{get_or-set_same, get_or_push, length-set, length_push}
+use Rattle.std.proofs.lemmas.List.Elements.{All-from_recursion}
 use Rattle.inst_text.specs.declared.shop.Operation.{Operation}
 use Rattle.inst_text.specs.Shop.{JobShop, IsJobShop}
-use Rattle.bb_shop.specs.Plans.{row_at, step_at, row_end, rows_end, makespan}
+use Rattle.bb_shop.specs.Plans.{row_at, step_at, end_at, IsOperation, AreShaped, row_end, rows_end, makespan}
 use Rattle.bb_shop.specs.Dispatching.{State, opened, number_in, starts_of, next_of, next_start, next_end, dispatched, state_of, IsLeft, IsOrder}
 use Rattle.bb_shop.specs.TreeLawsHold.States.{starts-dispatched, job-same, job-other, machine-same, machine-other, IsState, job-opened, machine-opened, IsState-opened, IsState-dispatched, kept, row-length, next_machine-lt}
 
@@ -89,3 +90,13 @@ AreReady-dispatched s st j shop are left = record {
 
 pub AreReady-of : (s : JobShop) (name : List ℕ) → IsJobShop s → IsOrder s name → AreReady s (state_of s name)
 AreReady-of s name shop order = kept s (AreReady s) (λ st j are left. AreReady-dispatched s st j shop are left) (opened s) name (AreReady-opened s) order
+
+-- a plan has as many start times of a job as there are machines
+pub length-times : (s : JobShop) (plan : List (List ℕ)) (j : ℕ) → AreShaped s plan → j < length s.rows → length (get_or plan j []) ≡ s.machines
+length-times s plan j shaped row = All-from_recursion (λ (ts : List ℕ). length ts ≡ s.machines) plan shaped.times j [] (omega (arith, row, shaped.rows))
+
+-- no operation ends after the makespan
+pub end_within_makespan : (s : JobShop) (starts : List (List ℕ)) (j k : ℕ) → IsJobShop s → AreShaped s starts → IsOperation s j k → end_at s starts j k ≤ makespan s starts
+end_within_makespan s starts j k shop shaped operation =
+    let row = end-le-row_end (row_at s.rows j) (get_or starts j []) k (omega (arith, row-length s j shop operation.0, operation.1)) (omega (arith, length-times s starts j shaped operation.0, operation.1)) in
+    omega (arith, row, row-le-rows_end s.rows starts j operation.0 (omega (arith, shaped.rows, operation.0)))

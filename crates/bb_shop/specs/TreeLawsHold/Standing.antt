@@ -12,8 +12,9 @@ use Rattle.inst_text.specs.Shop.{JobShop, IsJobShop, operations}
 use Rattle.bb_shop.specs.Plans.{row_at, operation_at, makespan, IsFeasible}
 use Rattle.bb_shop.specs.Dispatching.{State, opened, number_in, starts_of, step_of, next_of, next_start, next_end, state_of, IsLeft, IsOrder}
 use Rattle.bb_shop.specs.Bounds.{greatest, machine_bound, finish, job_load, each_from, all_joined, bound_at, bound_of, root_bound}
+use Rattle.bb_shop.specs.Judging.{booked}
 use Rattle.bb_shop.specs.Branching.{jobs_left, children_of, Reaches, Node, Stands}
-use Rattle.bb_shop.specs.Working.{FitTo, finish_at, load_at, whole_load, bound_by, rows_of, left_in, coming, ending, child_of, IsLeftAt, IsPlanOf}
+use Rattle.bb_shop.specs.Working.{FitTo, finish_at, load_at, whole_load, bound_by, rows_of, left_in, coming, next_at, ending, child_of, IsLeftAt, IsPlanOf}
 use Rattle.bb_shop.specs.TreeLawsHold.States.{IsState-of, state_of-nil, state_of-below, starts-dispatched, jobs-dispatched, machines-dispatched, IsOrder-below, length-order, get_or-same}
 use Rattle.bb_shop.specs.TreeLawsHold.Children.{jobs_left-short, jobs_left-full, children-none, children_are_left}
 use Rattle.bb_shop.specs.TreeLawsHold.Leaves.{leaf_is_feasible}
@@ -22,7 +23,7 @@ use Rattle.bb_shop.specs.TreeLawsHold.Ready.{IsTimely-of, worked-le, ready_withi
 use Rattle.bb_shop.specs.TreeLawsHold.Remaining.{length-left_in, left_in-are_left}
 
 -- as many start times as steps
-step_at_place : (rows : List (List ℕ)) (j : ℕ) → number_in (map length rows) j ≡ length (get_or rows j [])
+pub step_at_place : (rows : List (List ℕ)) (j : ℕ) → number_in (map length rows) j ≡ length (get_or rows j [])
 step_at_place [] j = refl
 step_at_place (row ∷ rows) zero = refl
 step_at_place (row ∷ rows) (suc j) = step_at_place rows j
@@ -134,6 +135,15 @@ child_stands s node name j shop stands left =
           ∙ ap (λ (o : Operation). set st.machines o.machine (next_end s st j)) operation
           ∙ sym (machines-dispatched s st j) ∙ ap (λ (x : State). x.machines) (sym (state_of-below s name j));
     }
+
+-- when the next operation of a job needs its machine
+pub next_at-is : (s : JobShop) (node : Node) (name : List ℕ) (j : ℕ) → Stands s node name → next_at s node j ≡ booked (next_of s (state_of s name) j) (next_start s (state_of s name) j)
+next_at-is s node name j stands =
+    let st = state_of s name in
+    let operation : coming s node j ≡ next_of s st j = ap (operation_at s j) (ap (λ (xs : List ℕ). number_in xs j) stands.steps ∙ step_at_place st.starts j) in
+    ap (λ xs. booked (coming s node j) (max (number_in xs j) (number_in node.machines (coming s node j).machine))) stands.jobs
+    ∙ ap (λ xs. booked (coming s node j) (max (number_in st.jobs j) (number_in xs (coming s node j).machine))) stands.machines
+    ∙ ap (λ (o : Operation). booked o (max (number_in st.jobs j) (number_in st.machines o.machine))) operation
 
 -- the jobs left by steps are those by start times
 left_in-starts : (m j : ℕ) (rows : List (List ℕ)) → jobs_left m j (rows_of (map length rows)) ≡ jobs_left m j rows

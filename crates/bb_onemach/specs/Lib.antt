@@ -1,0 +1,6 @@
+-- What the definitions are named by.
+pub mod Visits
+pub mod Thresholds
+pub mod Bounds
+pub mod Branching
+pub mod Worked

@@ -1,0 +1,10 @@
+//! Job shops by active branching, with bounds over one machine's heads and tails.
+#![tactic(auto)]
+
+mod laws;
+mod task;
+mod visit;
+
+pub use laws::worked_shops;
+pub use task::Task;
+pub use visit::Visit;
