@@ -102,7 +102,7 @@ leaf_is i node name choice limits s deep plan =
     let all : length i.items ≤ length name = omega (arith, deep, ap length s.decisions) in
     let weight : weight_of i.items choice ≡ weight_of i.items (taken_of i name) = plan.weight ∙ ap (λ ds. weight_of i.items (taken_of i ds)) s.decisions in
     let value : value_of i.items choice ≡ value_of i.items (taken_of i name) = plan.value ∙ ap (λ ds. value_of i.items (taken_of i ds)) s.decisions in (
-      ends i name limits all,
+      ends i name all,
       record { chosen = plan.chosen; fits = omega (arith, weight, s.room) },
       λ v r. let none : taken (rest_of i name) r.more ≡ [] = ap (λ ks. taken ks r.more) (rest-none i name all) ∙ taken-nothing r.more in
           omega (arith, r.cost, value_of-more i name r.more, ap (value_of i.items) none, value),

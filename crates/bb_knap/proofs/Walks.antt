@@ -155,7 +155,7 @@ some_children i path room value name s is inside none =
 pub leaf_tells : (i : Instance) (path : List Bool) (room value : ℕ) (name : List ℕ) → IsInstance i → LeadsTo i path room value → decisions path ≡ name → IsTrue (leb (length i.items) (length path)) ↔ (children_of i name ≡ [])
 leaf_tells i path room value name limits s is =
     let depth : length name ≡ length path = sym (ap length is) ∙ length-decisions path in (
-      λ h. ends i name limits (omega (arith, leb-true (length i.items) (length path) h, depth)),
+      λ h. ends i name (omega (arith, leb-true (length i.items) (length path) h, depth)),
       λ none. elim (cases_lt (length name) (length i.items)) [
         | inl inside ↦ absurd (some_children i path room value name s is inside none)
         | inr all ↦ le-leb (length i.items) (length path) (omega (arith, all, depth))

@@ -7,3 +7,6 @@ pub mod Dantzig
 pub mod Taken
 pub mod Best
 pub mod Tree
+pub mod Totals
+pub mod Sorting
+pub mod Chosen

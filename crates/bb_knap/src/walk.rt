@@ -37,7 +37,7 @@ impl<'a> Model for KnapWalk<'a> {
     ghost invariant = { λ w. LeadsTo w.knapsack.now w.path.items w.room w.value × (w.room ≤ capacity_limit) };
 }
 
-/// The last place of the path at which it takes an item.
+// The last place of the path at which it takes an item.
 fn last_taken(path: &[bool]) -> Option<usize>
     ensures { MatchOption result
         ((k : ℕ) → k < length path.now → slice_index_or path.now k false ≡ false) (IsLastTaken path.now) }

@@ -35,8 +35,8 @@ value_of-chosen i choice feasible =
     value_of-total i.items (taken_of i (decisions_for choice (order_of i.items)))
     ∙ total-chosen i choice feasible (λ k. (item_at i.items k).value) ∙ sym (value_of-total i.items choice)
 
-pub reached : (i : Instance) (choice : List ℕ) → IsInstance i → IsFeasible i choice → Reaches i [] (cost_of i choice)
-reached i choice limits feasible = record {
+pub reached : (i : Instance) (choice : List ℕ) → IsFeasible i choice → Reaches i [] (cost_of i choice)
+reached i choice feasible = record {
   more = decisions_for choice (order_of i.items);
   fits = omega (arith, weight_of-chosen i choice feasible, feasible.fits);
   cost = omega (arith, value_of-chosen i choice feasible);
@@ -59,9 +59,9 @@ weight_of-more i ds more = rw (taken-append (order_of i.items) ds more) (weight_
 pub value_of-more : (i : Instance) (ds more : List ℕ) → value_of i.items (taken_of i (ds ++ more)) ≡ value_of i.items (taken_of i ds) + value_of i.items (taken (rest_of i ds) more)
 value_of-more i ds more = rw (taken-append (order_of i.items) ds more) (value_of-append i.items (taken_of i ds) (taken (rest_of i ds) more))
 
-pub bounded : (i : Instance) (name : List ℕ) (v : ℕ) → IsInstance i → Reaches i name v → bound_of i name ≤ v
+pub bounded : (i : Instance) (name : List ℕ) (v : ℕ) → Reaches i name v → bound_of i name ≤ v
 unfolding bound_of
-bounded i name v limits r =
+bounded i name v r =
     let weight = weight_of-more i name r.more in
     let value = value_of-more i name r.more in
     let law : value_of i.items (taken (rest_of i name) r.more) ≤ dantzig i.items (room_of i name) (rest_of i name) =
@@ -119,9 +119,9 @@ pass_any : (i : Instance) (name : List ℕ) (v : ℕ) (rest : List ℕ) → rest
 pass_any i name v [] rest r some = absurd (some (choices-none i.items (room_of i name)))
 pass_any i name v (k ∷ ks) rest r some = pass i name v k ks r.more rest r.fits r.cost
 
-pub passed_on : (i : Instance) (name : List ℕ) (v : ℕ) → IsInstance i → Reaches i name v → children_of i name ≢ [] → (k : ℕ) × Contains (children_of i name) k × Reaches i (below name k) v
+pub passed_on : (i : Instance) (name : List ℕ) (v : ℕ) → Reaches i name v → children_of i name ≢ [] → (k : ℕ) × Contains (children_of i name) k × Reaches i (below name k) v
 unfolding children_of
-passed_on i name v limits r some = pass_any i name v (rest_of i name) refl r some
+passed_on i name v r some = pass_any i name v (rest_of i name) refl r some
 
 told_apart_at : (b : Bool) → IsDistinct nat_eq (cond b (1 ∷ 0 ∷ []) (0 ∷ []))
 unfolding IsDistinct
@@ -133,9 +133,9 @@ unfolding choices_at IsDistinct
 told_apart_rest items room [] = tt
 told_apart_rest items room (k ∷ ks) = told_apart_at (nat_le (item_at items k).weight room)
 
-pub told_apart : (i : Instance) (name : List ℕ) → IsInstance i → IsDistinct nat_eq (children_of i name)
+pub told_apart : (i : Instance) (name : List ℕ) → IsDistinct nat_eq (children_of i name)
 unfolding children_of
-told_apart i name limits = told_apart_rest i.items (room_of i name) (rest_of i name)
+told_apart i name = told_apart_rest i.items (room_of i name) (rest_of i name)
 
 -- behind the last item nothing is left
 pub rest-none : (i : Instance) (name : List ℕ) → length i.items ≤ length name → rest_of i name ≡ []
@@ -145,16 +145,16 @@ pub children-none : (i : Instance) (name : List ℕ) → length i.items ≤ leng
 unfolding children_of
 children-none i name le = ap (choices_at i.items (room_of i name)) (rest-none i name le) ∙ choices-none i.items (room_of i name)
 
-pub ends : (i : Instance) (name : List ℕ) → IsInstance i → length i.items ≤ length name → children_of i name ≡ []
-ends i name limits le = children-none i name le
+pub ends : (i : Instance) (name : List ℕ) → length i.items ≤ length name → children_of i name ≡ []
+ends i name le = children-none i name le
 
-pub attained : (i : Instance) → IsInstance i → (choice : List ℕ) × IsFeasible i choice × (cost_of i choice ≡ least_cost i)
-attained i limits =
+pub attained : (i : Instance) → (choice : List ℕ) × IsFeasible i choice × (cost_of i choice ≡ least_cost i)
+attained i =
     let a = best_is_attained i in
     (a.choice, a.feasible, ap (λ v. total_value i.items - v) a.value)
 
-pub least_of_all : (i : Instance) (choice : List ℕ) → IsInstance i → IsFeasible i choice → least_cost i ≤ cost_of i choice
-least_of_all i choice limits feasible = omega (arith, best_is_greatest i choice feasible)
+pub least_of_all : (i : Instance) (choice : List ℕ) → IsFeasible i choice → least_cost i ≤ cost_of i choice
+least_of_all i choice feasible = omega (arith, best_is_greatest i choice feasible)
 
 -- there are at most two children
 two_at : (f : ℕ → ℕ) (m : ℕ) → ((k : ℕ) → f k + 1 ≤ m) → (b : Bool) → total f (cond b (1 ∷ 0 ∷ []) (0 ∷ [])) + 2 ≤ 2 * m
@@ -181,19 +181,22 @@ names-below i (suc more) name =
 under_min : (a b n : ℕ) → min a b < b → n ≤ a → n ≤ min a b
 under_min a b n lt le = omega (arith, lt, le)
 
-pub counted : (i : Instance) → IsInstance i → tree_size i < 2 ^ 64 → node_count (tree_of i) ≤ tree_size i
-counted i limits small =
+pub counted : (i : Instance) → tree_size i < 2 ^ 64 → node_count (tree_of i) ≤ tree_size i
+counted i small =
     let few = names-below i (length i.items) [] in
     under_min (2 ^ (length i.items + 1)) (2 ^ 64) (node_count (tree_of i)) small (omega (arith, few))
 
-pub lawful : (i : Instance) → IsInstance i → IsLawful (meaning_of i)
-lawful i limits = record {
-  reached = λ choice feasible. reached i choice limits feasible;
-  bounded = λ name v r. bounded i name v limits r;
-  passed_on = λ name v r some. passed_on i name v limits r some;
-  told_apart = λ name. told_apart i name limits;
-  ends = λ name le. ends i name limits le;
-  attained = attained i limits;
-  least_of_all = λ choice feasible. least_of_all i choice limits feasible;
-  counted = counted i limits;
+pub is_lawful : (i : Instance) → IsLawful (meaning_of i)
+is_lawful i = record {
+  reached = λ choice feasible. reached i choice feasible;
+  bounded = λ name v r. bounded i name v r;
+  passed_on = λ name v r some. passed_on i name v r some;
+  told_apart = λ name. told_apart i name;
+  ends = λ name le. ends i name le;
+  attained = attained i;
+  least_of_all = λ choice feasible. least_of_all i choice feasible;
+  counted = counted i;
 }
+
+pub lawful : (i : Instance) → IsInstance i → IsLawful (meaning_of i)
+lawful i limits = is_lawful i

@@ -1,0 +1,3 @@
+-- What proofs are, and what is found of them.
+pub mod Tokens
+pub mod Verdicts
