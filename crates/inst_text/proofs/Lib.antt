@@ -13,8 +13,8 @@ pub mod Written
 pub mod WrittenKnapsack
 pub mod WrittenPlans
 pub mod WrittenShop
-pub mod Entries
 pub mod EveryLine
 pub mod ScriptLoop
 pub mod ScriptLines
 pub mod ScriptText
+pub mod Made

@@ -1,6 +1,5 @@
 -- The lines of a script that were read, and those that are found where they are spelled.
 use Rattle.std.proofs.Common.{◌≡◌, ℕ, ◌^◌, ◌%◌, ◌<◌, ◌≤◌, cond, ltb, List, [], ◌∷◌, codes, Result, Ok, Err, refl, sym, ap, subst, ◌∙◌, arith, inl, inr}
-use Rattle.std.proofs.Math.Nat.{mod-eq_of_lt}
 use Rattle.std.proofs.lemmas.Bool.{cases_Bool, ltb-true, lt-ltb}
 use Rattle.std.specs.Str.{bytes_eq}
 use Rattle.pq_io.specs.declared.text.fault.Cause.{Cause}
@@ -11,10 +10,8 @@ use Rattle.pq_io.proofs.Taken.{number_taken, number_found, same_word, line_ends,
 use Rattle.pq_model.specs.declared.marks.Act.TheVariants.{Insert, Remove, RemoveBelow}
 use Rattle.inst_text.specs.declared.script.lines.ScriptLine.{ScriptLine}
 use Rattle.inst_text.specs.declared.script.lines.ScriptLine.TheVariants.{Command, NextLane}
-use Rattle.inst_text.specs.Limits.{command_limit, key_limit, id_limit, below_limit}
-use Rattle.inst_text.specs.Entries.{entry_of}
+use Rattle.inst_text.specs.Limits.{command_limit}
 use Rattle.inst_text.specs.Script.{Counted, IsCommand, SpellsCommand, room_for, insert_of, remove_of, remove_below_of, lane_of, script_line_of}
-use Rattle.inst_text.proofs.Entries.{entry_is}
 use Rattle.inst_text.proofs.EveryLine.{on_line_ok}
 
 abbrev Words : Type 0
@@ -47,22 +44,15 @@ room_found n lt = ap (λ b. cond b (Ok tt) (Err Extra)) (lt-ltb n command_limit 
 insert_taken : (allowed : ℕ) (c : Counted) (ws : Words) (x : ScriptLine) → insert_of c.commands ws ≡ Ok x → LineTaken allowed c (codes "+" ∷ ws) x
 unfolding insert_of
 insert_taken allowed c ws x e =
-    let made = λ (key id : ℕ). Command (Insert (entry_of key id)) in
-    let r = bind_ok (room_for c.commands) (λ room. number_at 0 key_limit ws >>= λ key. number_at 0 id_limit key.rest >>= λ id. at_line_end id.rest >>= λ end. Ok (made key.value id.value)) x e in
-    let k = bind_ok (number_at 0 key_limit ws) (λ key. number_at 0 id_limit key.rest >>= λ id. at_line_end id.rest >>= λ end. Ok (made key.value id.value)) x r.2 in
-    let i = bind_ok (number_at 0 id_limit k.0.rest) (λ id. at_line_end id.rest >>= λ end. Ok (made k.0.value id.value)) x k.2 in
-    let z = bind_ok (at_line_end i.0.rest) (λ end. Ok (made k.0.value i.0.value)) x i.2 in
-    let v = number_taken 0 key_limit ws k.0 k.1 in
-    let w = number_taken 0 id_limit k.0.rest i.0 i.1 in
-    let key : k.0.value % 2 ^ 26 ≡ k.0.value = mod-eq_of_lt (omega (arith, v.below)) in
-    let id : i.0.value % 2 ^ 22 ≡ i.0.value = mod-eq_of_lt (omega (arith, w.below)) in
-    let whole : v.word ∷ w.word ∷ [] ≡ ws =
-    sym (v.first ∙ ap (λ (t : Words). v.word ∷ t) (w.first ∙ ap (λ (t : Words). w.word ∷ t) (line_ends i.0.rest z.0 z.1))) in
-    let here : SpellsCommand (codes "+" ∷ v.word ∷ w.word ∷ []) (Insert (entry_of k.0.value i.0.value)) =
-    (refl, subst (λ n. Spells v.word n) (sym key) v.spells, subst (λ n. Spells w.word n) (sym id) w.spells) in
-    subst (λ (y : ScriptLine). LineTaken allowed c (codes "+" ∷ ws) y) (ok_is (made k.0.value i.0.value) x z.2)
+    let r = bind_ok (room_for c.commands) (λ room. entry_at ws >>= λ entry. at_line_end entry.rest >>= λ end. Ok (Command (Insert entry.value))) x e in
+    let n = bind_ok (entry_at ws) (λ entry. at_line_end entry.rest >>= λ end. Ok (Command (Insert entry.value))) x r.2 in
+    let z = bind_ok (at_line_end n.0.rest) (λ end. Ok (Command (Insert n.0.value))) x n.2 in
+    let t = entry_taken ws n.0 n.1 in
+    let whole : t.key ∷ t.id ∷ [] ≡ ws = sym (t.first ∙ ap (λ (r : Words). t.key ∷ t.id ∷ r) (line_ends n.0.rest z.0 z.1)) in
+    let here : SpellsCommand (codes "+" ∷ t.key ∷ t.id ∷ []) (Insert n.0.value) = (refl, t.spells_key, t.spells_id) in
+    subst (λ (y : ScriptLine). LineTaken allowed c (codes "+" ∷ ws) y) (ok_is (Command (Insert n.0.value)) x z.2)
     (record {
-      says = subst (λ (t : Words). SpellsCommand (codes "+" ∷ t) (Insert (entry_of k.0.value i.0.value))) whole here;
+      says = subst (λ (r : Words). SpellsCommand (codes "+" ∷ r) (Insert n.0.value)) whole here;
       allows = (room_taken c.commands r.0 r.1, tt);
     })
 
@@ -81,10 +71,10 @@ remove_taken allowed c ws x e =
 remove_below_taken : (allowed : ℕ) (c : Counted) (ws : Words) (x : ScriptLine) → remove_below_of c.commands ws ≡ Ok x → LineTaken allowed c (codes "<" ∷ ws) x
 unfolding remove_below_of
 remove_below_taken allowed c ws x e =
-    let r = bind_ok (room_for c.commands) (λ room. number_at 0 below_limit ws >>= λ limit. at_line_end limit.rest >>= λ end. Ok (Command (RemoveBelow limit.value))) x e in
-    let l = bind_ok (number_at 0 below_limit ws) (λ limit. at_line_end limit.rest >>= λ end. Ok (Command (RemoveBelow limit.value))) x r.2 in
+    let r = bind_ok (room_for c.commands) (λ room. number_at 0 key_limit ws >>= λ limit. at_line_end limit.rest >>= λ end. Ok (Command (RemoveBelow limit.value))) x e in
+    let l = bind_ok (number_at 0 key_limit ws) (λ limit. at_line_end limit.rest >>= λ end. Ok (Command (RemoveBelow limit.value))) x r.2 in
     let z = bind_ok (at_line_end l.0.rest) (λ end. Ok (Command (RemoveBelow l.0.value))) x l.2 in
-    let v = number_taken 0 below_limit ws l.0 l.1 in
+    let v = number_taken 0 key_limit ws l.0 l.1 in
     let whole : v.word ∷ [] ≡ ws = sym (v.first ∙ ap (λ (t : Words). v.word ∷ t) (line_ends l.0.rest z.0 z.1)) in
     let here : SpellsCommand (codes "<" ∷ v.word ∷ []) (RemoveBelow l.0.value) = (refl, v.spells) in
     subst (λ (y : ScriptLine). LineTaken allowed c (codes "<" ∷ ws) y) (ok_is (Command (RemoveBelow l.0.value)) x z.2)
@@ -128,10 +118,7 @@ script_line_found allowed c [] (Command (Insert e)) says allows = absurd says
 script_line_found allowed c (w ∷ []) (Command (Insert e)) says allows = absurd says
 script_line_found allowed c (w ∷ k ∷ []) (Command (Insert e)) says allows = absurd says
 script_line_found allowed c (w ∷ k ∷ i ∷ []) (Command (Insert e)) says allows =
-    let key : e.key ≤ key_limit = omega (arith, e.key_fits) in
-    let id : e.id ≤ id_limit = omega (arith, e.id_fits) in
-    rw (says.0, room_found c.commands allows.0, number_found 0 key_limit k (i ∷ []) e.key says.1 (omega arith) key, number_found 0 id_limit i [] e.id says.2 (omega arith) id, end_found)
-    (ap (λ n. Ok (Command (Insert n))) (entry_is e.key e.id e refl refl))
+    rw (says.0, room_found c.commands allows.0, entry_found k i [] e says.1 says.2, end_found) refl
 script_line_found allowed c (w ∷ k ∷ i ∷ v ∷ ws) (Command (Insert e)) says allows = absurd says
 script_line_found allowed c [] (Command Remove) says allows = absurd says
 script_line_found allowed c (w ∷ []) (Command Remove) says allows = rw (says, room_found c.commands allows.0, end_found) refl
@@ -141,7 +128,7 @@ script_line_found allowed c (w ∷ v ∷ u ∷ t ∷ ws) (Command Remove) says a
 script_line_found allowed c [] (Command (RemoveBelow limit)) says allows = absurd says
 script_line_found allowed c (w ∷ []) (Command (RemoveBelow limit)) says allows = absurd says
 script_line_found allowed c (w ∷ l ∷ []) (Command (RemoveBelow limit)) says allows =
-    rw (says.0, room_found c.commands allows.0, number_found 0 below_limit l [] limit says.1 (omega arith) allows.1, end_found) refl
+    rw (says.0, room_found c.commands allows.0, number_found 0 key_limit l [] limit says.1 (omega arith) allows.1, end_found) refl
 script_line_found allowed c (w ∷ l ∷ v ∷ []) (Command (RemoveBelow limit)) says allows = absurd says
 script_line_found allowed c (w ∷ l ∷ v ∷ u ∷ ws) (Command (RemoveBelow limit)) says allows = absurd says
 script_line_found allowed c words NextLane says allows = rw (says, lt-ltb c.lanes allowed allows, end_found) refl

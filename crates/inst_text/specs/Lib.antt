@@ -4,5 +4,5 @@ pub mod Several
 pub mod Knapsack
 pub mod Shop
 pub mod Plans
-pub mod Entries
 pub mod Script
+pub mod Generator

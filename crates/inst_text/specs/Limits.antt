@@ -1,5 +1,6 @@
 -- The limits of instances, plans and scripts, each once.
 use Rattle.std.specs.Prelude.{ℕ}
+use Rattle.pq_model.specs.Limits.{max_seats}
 
 -- how many items a knapsack has at most
 abbrev pub item_limit : ℕ
@@ -33,22 +34,18 @@ total_limit = 67108863
 abbrev pub stated_limit : ℕ
 stated_limit = 4294967295
 
--- how many lanes a script has at most
+-- how many lanes a script has at most: one for each seat of a queue
 abbrev pub lane_limit : ℕ
-lane_limit = 16
+lane_limit = max_seats
 
 -- how many commands the lanes of a script have at most, all together
 abbrev pub command_limit : ℕ
 command_limit = 1048576
 
--- the greatest key of an entry
-abbrev pub key_limit : ℕ
-key_limit = 67108863
+-- the greatest size of a shop that is made
+abbrev pub made_shop_limit : ℕ
+made_shop_limit = 32
 
--- the greatest id of an entry
-abbrev pub id_limit : ℕ
-id_limit = 4194303
-
--- the greatest number below which a key may be asked for
-abbrev pub below_limit : ℕ
-below_limit = 67108864
+-- how many inserts a lane that is made has at most
+abbrev pub made_lane_limit : ℕ
+made_lane_limit = 1000

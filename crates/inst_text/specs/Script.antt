@@ -9,19 +9,20 @@ use Rattle.pq_io.specs.declared.text.fault.BadInput.{BadInput}
 use Rattle.pq_io.specs.Inputs.{longest_input, text_within}
 use Rattle.pq_io.specs.Lines.{Line, text_of}
 use Rattle.pq_io.specs.Reading.{◌>>=◌, Spells, number_at, word_at, at_line_end}
+use Rattle.pq_words.specs.Limits.{key_limit}
+use Rattle.pq_model.specs.EntryWords.{entry_at}
 use Rattle.pq_model.specs.declared.marks.Act.{Act}
 use Rattle.pq_model.specs.declared.marks.Act.TheVariants.{Insert, Remove, RemoveBelow}
 use Rattle.inst_text.specs.declared.script.lines.ScriptLine.{ScriptLine}
 use Rattle.inst_text.specs.declared.script.lines.ScriptLine.TheVariants.{Command, NextLane}
-use Rattle.inst_text.specs.Limits.{lane_limit, command_limit, key_limit, id_limit, below_limit}
-use Rattle.inst_text.specs.Entries.{entry_of}
+use Rattle.inst_text.specs.Limits.{lane_limit, command_limit}
 use Rattle.inst_text.specs.Several.{every_line}
 
--- the command asks for no key below a number that is too great
+-- the limit below which a key is asked for is at most the one that every key is below
 abbrev pub IsCommand : Act → Type 0
 IsCommand (Insert e) = Unit {0}
 IsCommand Remove = Unit {0}
-IsCommand (RemoveBelow limit) = limit ≤ below_limit
+IsCommand (RemoveBelow limit) = limit ≤ key_limit
 
 -- how many commands the lanes have, all together
 abbrev pub command_count : List (List Act) → ℕ
@@ -56,10 +57,9 @@ room_for commands = if nat_lt commands command_limit then Ok tt else Err Extra
 unfoldable pub insert_of : ℕ → List (List ℕ) → Result ScriptLine Cause
 insert_of commands words = do
   room ← room_for commands
-  key ← number_at 0 key_limit words
-  id ← number_at 0 id_limit key.rest
-  end ← at_line_end id.rest
-  Ok (Command (Insert (entry_of key.value id.value)))
+  entry ← entry_at words
+  end ← at_line_end entry.rest
+  Ok (Command (Insert entry.value))
 
 -- Behind `-`: nothing.
 unfoldable pub remove_of : ℕ → List (List ℕ) → Result ScriptLine Cause
@@ -72,7 +72,7 @@ remove_of commands words = do
 unfoldable pub remove_below_of : ℕ → List (List ℕ) → Result ScriptLine Cause
 remove_below_of commands words = do
   room ← room_for commands
-  limit ← number_at 0 below_limit words
+  limit ← number_at 0 key_limit words
   end ← at_line_end limit.rest
   Ok (Command (RemoveBelow limit.value))
 
@@ -87,10 +87,10 @@ unfoldable pub script_line_of : ℕ → Counted → List (List ℕ) → Result S
 script_line_of allowed c words = do
   word ← word_at words
   if bytes_eq word.value (codes "+") then insert_of c.commands word.rest
-    else if bytes_eq word.value (codes "-") then remove_of c.commands word.rest
-    else if bytes_eq word.value (codes "<") then remove_below_of c.commands word.rest
-    else if bytes_eq word.value (codes "lane") then lane_of allowed c.lanes word.rest
-    else Err Word
+      else if bytes_eq word.value (codes "-") then remove_of c.commands word.rest
+      else if bytes_eq word.value (codes "<") then remove_below_of c.commands word.rest
+      else if bytes_eq word.value (codes "lane") then lane_of allowed c.lanes word.rest
+      else Err Word
 
 -- a command before those of the first of these lanes
 abbrev pub onto_first_lane : Act → List (List Act) → List (List Act)

@@ -3,6 +3,7 @@
 
 mod knapsack;
 mod limits;
+mod making;
 mod plan;
 mod script;
 mod shop;
@@ -15,8 +16,9 @@ pub use knapsack::{
 };
 pub use limits::{
     CAPACITY_LIMIT, COMMAND_LIMIT, ITEM_LIMIT, JOB_LIMIT, LANE_LIMIT, MACHINE_LIMIT,
-    OPERATION_LIMIT, STATED_LIMIT, TOTAL_LIMIT, WEIGHT_LIMIT,
+    MADE_LANE_LIMIT, MADE_SHOP_LIMIT, OPERATION_LIMIT, STATED_LIMIT, TOTAL_LIMIT, WEIGHT_LIMIT,
 };
+pub use making::{make_knapsack, make_script, make_shop, smallest_made, states_by_hand};
 pub use plan::{
     Claimed, choices_are_read_behind, knapsack_plan_texts_are_read, next_choice,
     read_plan_knapsack, read_plan_shop, shop_plan_texts_are_read, starts_are_read_behind,

@@ -1,5 +1,7 @@
 //! The limits of instances, plans and scripts.
 
+use pq_model::MAX_SEATS;
+
 /// How many items a knapsack has at most.
 pub const ITEM_LIMIT: u32 = 1_024;
 /// The greatest weight of an item.
@@ -17,13 +19,11 @@ pub const OPERATION_LIMIT: u32 = 1_024;
 pub const TOTAL_LIMIT: u32 = 67_108_863;
 /// The greatest number that may be stated for a plan.
 pub const STATED_LIMIT: u32 = u32::MAX;
-/// How many lanes a script has at most.
-pub const LANE_LIMIT: u32 = 16;
+/// How many lanes a script has at most: one for each seat of a queue.
+pub const LANE_LIMIT: u32 = MAX_SEATS;
 /// How many commands the lanes of a script have at most, all together.
 pub const COMMAND_LIMIT: u32 = 1_048_576;
-/// The greatest key of an entry.
-pub(crate) const KEY_LIMIT: u32 = 67_108_863;
-/// The greatest id of an entry.
-pub(crate) const ID_LIMIT: u32 = 4_194_303;
-/// The greatest number below which a key may be asked for.
-pub(crate) const BELOW_LIMIT: u32 = 67_108_864;
+/// The greatest size of a shop that is made.
+pub const MADE_SHOP_LIMIT: u32 = 32;
+/// How many inserts a lane that is made has at most.
+pub const MADE_LANE_LIMIT: u32 = 1_000;

@@ -3,10 +3,10 @@
 ghost use Rattle.std.specs.Prelude.{◌≡◌};
 ghost use Rattle.inst_text.specs.Script.{room_for, insert_of, remove_of, remove_below_of, lane_of, script_line_of};
 
-use crate::limits::{BELOW_LIMIT, COMMAND_LIMIT, ID_LIMIT, KEY_LIMIT};
+use crate::limits::COMMAND_LIMIT;
 use pq_io::{Cause, WordReader};
-use pq_model::Act;
-use pq_words::Entry;
+use pq_model::{Act, read_entry};
+use pq_words::KEY_LIMIT;
 
 /// A line of a script.
 #[derive(Clone, Copy, Debug)]
@@ -35,13 +35,9 @@ fn insert(words: &mut WordReader<'_>, commands: u32) -> Result<ScriptLine, Cause
     ensures { result ≡ insert_of commands words.old.words }
 {
     has_room(commands)?;
-    let key = words.number(0, u64::from(KEY_LIMIT))?;
-    let id = words.number(0, u64::from(ID_LIMIT))?;
+    let entry = read_entry(words)?;
     words.finish()?;
-    Ok(ScriptLine::Command(Act::Insert(Entry {
-        key: key as u32,
-        id: id as u32,
-    })))
+    Ok(ScriptLine::Command(Act::Insert(entry)))
 }
 
 // What stands behind `-`.
@@ -60,7 +56,7 @@ fn remove_below(words: &mut WordReader<'_>, commands: u32) -> Result<ScriptLine,
     ensures { result ≡ remove_below_of commands words.old.words }
 {
     has_room(commands)?;
-    let limit = words.number(0, u64::from(BELOW_LIMIT))?;
+    let limit = words.number(0, u64::from(KEY_LIMIT))?;
     words.finish()?;
     Ok(ScriptLine::Command(Act::RemoveBelow(limit as u32)))
 }
