@@ -1,4 +1,4 @@
-pub mod SpacedNumbers
+pub mod PieceByPiece
 pub mod ItemNumbers
 pub mod KnapsackText
 pub mod LinesBehind

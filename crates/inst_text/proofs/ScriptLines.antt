@@ -10,6 +10,9 @@ use Rattle.pq_io.proofs.Taken.{number_taken, number_found, same_word, line_ends,
 use Rattle.pq_model.specs.declared.marks.Act.TheVariants.{Insert, Remove, RemoveBelow}
 use Rattle.inst_text.specs.declared.script.lines.ScriptLine.{ScriptLine}
 use Rattle.inst_text.specs.declared.script.lines.ScriptLine.TheVariants.{Command, NextLane}
+use Rattle.pq_words.specs.Limits.{key_limit}
+use Rattle.pq_model.specs.EntryWords.{entry_at}
+use Rattle.pq_model.proofs.EntryWords.{entry_taken, entry_found}
 use Rattle.inst_text.specs.Limits.{command_limit}
 use Rattle.inst_text.specs.Script.{Counted, IsCommand, SpellsCommand, room_for, insert_of, remove_of, remove_below_of, lane_of, script_line_of}
 use Rattle.inst_text.proofs.EveryLine.{on_line_ok}

@@ -7,7 +7,7 @@ mod writing;
 pub use laws::{knapsack_texts_are_read, written_knapsacks_are_read};
 pub use reading::{next_knapsack, read_knapsack};
 use std::marker::Model;
-pub use writing::write_choice;
+pub use writing::{write_choice, write_knapsack};
 
 /// One item of a knapsack.
 #[derive(Clone, Copy, Debug, PartialEq, Eq)]

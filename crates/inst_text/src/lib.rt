@@ -4,6 +4,7 @@
 mod knapsack;
 mod limits;
 mod making;
+mod numbers;
 mod plan;
 mod script;
 mod shop;
@@ -12,7 +13,7 @@ mod tests;
 
 pub use knapsack::{
     Choice, Item, Items, knapsack_texts_are_read, next_knapsack, read_knapsack, write_choice,
-    written_knapsacks_are_read,
+    write_knapsack, written_knapsacks_are_read,
 };
 pub use limits::{
     CAPACITY_LIMIT, COMMAND_LIMIT, ITEM_LIMIT, JOB_LIMIT, LANE_LIMIT, MACHINE_LIMIT,
@@ -26,6 +27,6 @@ pub use plan::{
 };
 pub use script::{Script, read_script, script_texts_are_read};
 pub use shop::{
-    Jobs, Operation, Starts, next_shop, read_shop, shop_texts_are_read, write_starts,
+    Jobs, Operation, Starts, next_shop, read_shop, shop_texts_are_read, write_shop, write_starts,
     written_shops_are_read,
 };

@@ -7,7 +7,7 @@ mod writing;
 pub use laws::{shop_texts_are_read, written_shops_are_read};
 pub use reading::{next_shop, read_shop};
 use std::marker::Model;
-pub use writing::write_starts;
+pub use writing::{write_shop, write_starts};
 
 /// One operation of a job: the machine that it needs, and for how long.
 #[derive(Clone, Copy, Debug, PartialEq, Eq)]

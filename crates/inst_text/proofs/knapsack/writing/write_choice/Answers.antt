@@ -1,4 +1,4 @@
-use Rattle.inst_text.proofs.SpacedNumbers.{choice_written}
+use Rattle.inst_text.proofs.PieceByPiece.{choice_written}
 use Rattle.inst_text.proofs.knapsack.writing.write_choice.Goals as goal
 
 pub returns : goal.returns

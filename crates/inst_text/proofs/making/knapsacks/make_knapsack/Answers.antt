@@ -1,7 +1,6 @@
-use Rattle.std.proofs.Common.{◌≡◌, ◌+◌, ◌*◌, ◌/◌, suc, refl, sym, ap, sum_by, ◌∙◌, arith}
+use Rattle.std.proofs.Common.{◌≡◌, ◌+◌, ◌*◌, suc, refl, sym, ap, sum_by, ◌∙◌, arith}
 use Rattle.inst_text.specs.declared.knapsack.Item.{Item}
-use Rattle.inst_text.specs.Knapsack.{Instance, IsInstance}
-use Rattle.inst_text.specs.Generator.{next_state, state_after, item_from, made_items, made_knapsack}
+use Rattle.inst_text.specs.Generator.{next_state, state_after, item_from, made_items}
 use Rattle.inst_text.proofs.Made.{all_made, one_more, steps_on, weight_more, knapsack_fits}
 use Rattle.inst_text.proofs.making.knapsacks.make_knapsack.Goals as goal
 

@@ -1,4 +1,4 @@
-use Rattle.std.proofs.Common.{◌≡◌, ◌+◌, ◌*◌, sym, ◌∙◌, arith}
+use Rattle.std.proofs.Common.{◌*◌, sym, ◌∙◌, arith}
 use Rattle.std.proofs.lemmas.List.{map-append}
 use Rattle.inst_text.specs.Generator.{made_lane}
 use Rattle.inst_text.proofs.Made.{all_made, one_more, next_from, script_fits}

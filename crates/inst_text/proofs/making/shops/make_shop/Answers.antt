@@ -1,7 +1,6 @@
-use Rattle.std.proofs.Common.{◌≡◌, ◌+◌, ◌*◌, sym, ap, subst, ◌∙◌, arith}
+use Rattle.std.proofs.Common.{◌+◌, ◌*◌, sym, ◌∙◌, arith}
 use Rattle.std.proofs.lemmas.List.{map-append}
-use Rattle.inst_text.specs.Shop.{JobShop, IsJobShop}
-use Rattle.inst_text.specs.Generator.{each_below, made_row}
+use Rattle.inst_text.specs.Generator.{made_row}
 use Rattle.inst_text.proofs.Made.{all_made, one_more, next_from, shop_fits}
 use Rattle.inst_text.proofs.making.shops.make_shop.Goals as goal
 

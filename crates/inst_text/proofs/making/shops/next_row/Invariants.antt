@@ -1,5 +1,5 @@
 use Rattle.std.proofs.Common.{◌≡◌, ◌+◌, ℕ}
-use Rattle.inst_text.specs.Generator.{state_after, made_row, made_operation, each_below}
+use Rattle.inst_text.specs.Generator.{state_after, made_operation, each_below}
 use Rattle.inst_text.proofs.making.shops.next_row.Given as goal
 
 abbrev pub invariant-loop-step : goal.invariant-loop-step

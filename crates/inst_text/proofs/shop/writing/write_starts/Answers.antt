@@ -1,15 +1,16 @@
-use Rattle.std.proofs.Common.{◌∙◌, ap, map, arith}
+use Rattle.std.proofs.Common.{ℕ, List, [], ◌∷◌, codes, decimal, map, ap, ◌∙◌}
+use Rattle.pq_io.specs.Writing.{lines_text}
 use Rattle.inst_text.specs.Shop.{starts_text}
-use Rattle.inst_text.proofs.SpacedNumbers.{row_written, rows_written}
+use Rattle.inst_text.proofs.PieceByPiece.{line_written, lines_written, map_twice}
 use Rattle.inst_text.proofs.shop.writing.write_starts.Goals as goal
 
 pub loop-row-preserved : goal.loop-row-preserved
 loop-row-preserved c =
-    row_written (λ row. row.items) c.args.makespan c.deref-row-items.result.now c.loop-row.row-index c.row-item.result c.deref.result.now _ _ c.loop-row-test.true c.row-item.is c.deref.ensures.value
-    c.in_ok-write_row.ensures c.loop-row.invariant
+    line_written (λ row. map decimal row.items) (codes "makespan" ∷ decimal c.args.makespan ∷ []) c.deref-row-items.result.now c.loop-row.row-index _ c.row-item.result _ _ c.loop-row-test.true c.row-item.is (rw c.deref.ensures.value at c.in_ok-write_row.ensures) c.loop-row.invariant
 
 pub returns : goal.returns
 returns c =
-    rows_written (λ row. row.items) c.args.makespan c.deref-row-items.result.now c.loop-row.row-index _ (omega arith) c.loop-row.invariant
-    ∙ ap (λ xs. starts_text c.args.makespan (map (λ row. row.items) xs)) c.deref-row-items.ensures.value
+    lines_written (λ row. map decimal row.items) (codes "makespan" ∷ decimal c.args.makespan ∷ []) c.deref-row-items.result.now c.loop-row.row-index _ c.loop-row-test.false c.loop-row.invariant
+    ∙ ap (λ xs. lines_text ((codes "makespan" ∷ decimal c.args.makespan ∷ []) ∷ map (λ row. map decimal row.items) xs)) c.deref-row-items.ensures.value
+    ∙ ap (λ (ls : List (List (List ℕ))). lines_text ((codes "makespan" ∷ decimal c.args.makespan ∷ []) ∷ ls)) (map_twice (λ row. row.items) (map decimal) c.starts.inside.rows.items)
     ∙ ap (starts_text c.args.makespan) c.starts.view_is

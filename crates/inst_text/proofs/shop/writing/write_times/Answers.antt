@@ -1,4 +1,4 @@
-use Rattle.inst_text.proofs.SpacedNumbers.{times_written}
+use Rattle.inst_text.proofs.PieceByPiece.{times_written}
 use Rattle.inst_text.proofs.shop.writing.write_times.Goals as goal
 
 pub returns : goal.returns
