@@ -1,67 +1,53 @@
--- An input that is too large for any command has no reading for this one.
-use Rattle.std.proofs.Common.{◌≡◌, ◌<◌, inl, inr, sym, [], IfSome, Result, ℕ, List, length, Option, None, Some, arith}
+-- Why a command has no answer to an input: a refusal of gathering it, or of the work on its bytes.
+use Rattle.std.proofs.Common.{◌≡◌, ◌<◌, ◌≤◌, ◌⊎◌, inl, inr, sym, [], IfSome, IfErr, Result, ℕ, List, length, Option, None, Some, arith}
 use Rattle.std.proofs.lemmas.Bool.Decides.{nat_tests}
-use Rattle.pq_io.specs.declared.text.fault.Cause.TheVariants.{TooLarge}
-use Rattle.pq_io.specs.declared.text.fault.BadInput.{BadInput}
-use Rattle.pq_io.specs.Lines.{Text}
-use Rattle.pq_io.specs.Reading.{Read}
-use Rattle.inst_text.specs.Several.{whole}
-use Rattle.inst_text.specs.Knapsack.{knapsack_of}
-use Rattle.inst_text.specs.Shop.{shop_of}
-use Rattle.inst_text.specs.Plans.{knapsack_plan_of, shop_plan_of}
-use Rattle.pq_cli.specs.declared.command.Kind.TheVariants.{Knapsack, Shop}
-use Rattle.pq_cli.specs.Readings.{fault_in}
-use Rattle.pq_tape.specs.HistoryReading.{history_of}
-use Rattle.pq_cli.specs.declared.command.Command.{Command}
-use Rattle.pq_cli.specs.declared.command.Command.TheVariants.{Solve, Bound, Check, Audit}
+use Rattle.pq_io.specs.Inputs.{longest_input, too_large, ExplainsInput}
+use Rattle.pq_io.specs.declared.input.InputRefusal.{InputRefusal}
+use Rattle.pq_io.specs.declared.input.InputRefusal.TheVariants as inputs
 use Rattle.pq_cli.specs.declared.refusal.Refusal.{Refusal}
 use Rattle.pq_cli.specs.declared.refusal.Refusal.TheVariants as refusals
-use Rattle.pq_cli.specs.Causes.{HasFault, IsLimited, IsFilled, IsPastLimit, IsPastCapacity, Explains, ExplainsInput, ExplainsText}
+use Rattle.pq_cli.specs.Refusals.{of_input}
+use Rattle.pq_cli.specs.Work.{Work, fault_of, Explains}
+use Rattle.pq_cli.specs.Streams.{Change, IsTaken}
+use Rattle.pq_cli.specs.Runs.{Stops}
 
-too_large_in : {A : Type 0} (read : Text → Result (Read A Text) BadInput) (bytes : List ℕ) → 67108864 < length bytes → fault_in (whole read bytes) ≡ Some (record { line = 0; cause = TooLarge })
-unfolding whole
-too_large_in read bytes long = grind (arith, nat_tests)
+long_is_too_large : (work : Work) (bytes : List ℕ) → longest_input < length bytes → fault_of work bytes ≡ Some too_large
+long_is_too_large work bytes long = grind (arith, nat_tests)
 
-too_large : (command : Command) (bytes : List ℕ) → 67108864 < length bytes → HasFault command bytes (record { line = 0; cause = TooLarge })
-unfolding knapsack_of shop_of knapsack_plan_of shop_plan_of history_of
-too_large (Solve Knapsack queue workers nodes capacity) bytes long = too_large_in _ bytes long
-too_large (Solve Shop queue workers nodes capacity) bytes long = too_large_in _ bytes long
-too_large (Bound Knapsack) bytes long = too_large_in _ bytes long
-too_large (Bound Shop) bytes long = too_large_in _ bytes long
-too_large (Check Knapsack) bytes long = too_large_in _ bytes long
-too_large (Check Shop) bytes long = too_large_in _ bytes long
-too_large Audit bytes long = grind (arith, nat_tests)
+within_is_first : (work : Work) (bytes : List ℕ) → length bytes ≤ longest_input → fault_of work bytes ≡ work.first_fault bytes
+within_is_first work bytes within = grind (arith, nat_tests)
 
-past_limit : (command : Command) (bytes : List ℕ) (asked limit : ℕ) → IsLimited command bytes asked limit → IsPastLimit command asked limit
-past_limit (Solve kind queue workers nodes capacity) bytes asked limit h = (h.1.limit_is, h.1.over)
-past_limit (Bound kind) bytes asked limit h = h
-past_limit (Check kind) bytes asked limit h = h
-past_limit Audit bytes asked limit h = h
+taken_in_part : {A : Type 0} (before : Option A) (P Q : A → Type 0) → IfSome before Q → IfSome before (λ x. P x ⊎ Q x)
+taken_in_part None P Q h = tt
+taken_in_part (Some x) P Q h = inr h
 
-past_capacity : (command : Command) (bytes : List ℕ) (place : ℕ) → IsFilled command bytes place → IsPastCapacity command place
-past_capacity (Solve kind queue workers nodes capacity) bytes place h = (h.1.below_limit, h.1.from)
-past_capacity (Bound kind) bytes place h = h
-past_capacity (Check kind) bytes place h = h
-past_capacity Audit bytes place h = h
+taken_whole : {A : Type 0} (before : Option A) (P Q : A → Type 0) → IfSome before P → IfSome before (λ x. P x ⊎ Q x)
+taken_whole None P Q h = tt
+taken_whole (Some x) P Q h = inl h
 
-with_bytes : (P : List ℕ → Type 0) (bytes : List ℕ) (before : Option (List ℕ)) → IfSome before (λ b. bytes ≡ b) → P bytes → IfSome before P
-with_bytes P bytes None same h = tt
-with_bytes P bytes (Some b) same h = rw (sym same) h
+-- a refusal of gathering the input
+pub input_stops : {S : Type 0} (work : Work) (input : Change S) (refusal : InputRefusal) →
+    ExplainsInput (input.told input.old) (input.told input.new) (input.faults input.old) (input.faults input.new) refusal →
+    Stops work input (of_input refusal)
+input_stops work input (inputs.BadInput fault) h = record {
+  bytes = h.1.bytes;
+  were_left = h.1.were_left;
+  faulty = rw h.0 (long_is_too_large work h.1.bytes h.1.long);
+  taken = taken_in_part (input.told input.old) _ _ h.1.taken;
+}
+input_stops work input inputs.ReadFault h = h
+input_stops work input inputs.NoMemory h = tt
 
--- a refusal of the work on all bytes explains itself
-pub text_is_explained : (command : Command) (bytes : List ℕ) (before now : Option (List ℕ)) (failed failing : ℕ) (r : Refusal) → IfSome before (λ b. bytes ≡ b) → IfSome before (λ b. now ≡ Some [])
-    → ExplainsText command bytes r → Explains command before now failed failing r
-text_is_explained command bytes None now failed failing (refusals.BadInput fault) same taken h = tt
-text_is_explained command bytes (Some b) now failed failing (refusals.BadInput fault) same taken h = record { faulty = rw (sym same) h; taken = inl taken }
-text_is_explained command bytes before now failed failing (refusals.NodeLimit asked limit) same taken h = (past_limit command bytes asked limit h, with_bytes _ bytes before same h)
-text_is_explained command bytes before now failed failing (refusals.Full place) same taken h = (past_capacity command bytes place h, with_bytes _ bytes before same h)
-text_is_explained command bytes before now failed failing refusals.ReadFault same taken h = absurd h
-text_is_explained command bytes before now failed failing refusals.NoMemory same taken h = tt
-
-pub input_is_explained : (command : Command) (before now : Option (List ℕ)) (failed failing : ℕ) (r : Refusal) → ExplainsInput before now failed failing r → Explains command before now failed failing r
-input_is_explained command None now failed failing (refusals.BadInput fault) h = tt
-input_is_explained command (Some bytes) now failed failing (refusals.BadInput fault) h = record { faulty = rw h.1 (too_large command bytes h.0); taken = inr h.2 }
-input_is_explained command before now failed failing (refusals.NodeLimit asked limit) h = absurd h
-input_is_explained command before now failed failing (refusals.Full place) h = absurd h
-input_is_explained command before now failed failing refusals.ReadFault h = h
-input_is_explained command before now failed failing refusals.NoMemory h = tt
+-- a refusal of the work on bytes that were taken whole
+pub work_stops : {S : Type 0} (work : Work) (bytes : List ℕ) (input : Change S) (refusal : Refusal) →
+    IsTaken input bytes → length bytes ≤ longest_input → Explains work bytes refusal → Stops work input refusal
+work_stops work bytes input (refusals.BadInput fault) taken within h = record {
+  bytes = bytes;
+  were_left = taken.were_left;
+  faulty = rw (within_is_first work bytes within) h;
+  taken = taken_whole (input.told input.old) _ _ taken.end;
+}
+work_stops work bytes input (refusals.NodeLimit asked limit) taken within h = record { bytes = bytes; taken = taken; holds = h }
+work_stops work bytes input (refusals.Full place) taken within h = record { bytes = bytes; taken = taken; holds = h }
+work_stops work bytes input refusals.ReadFault taken within h = absurd h
+work_stops work bytes input refusals.NoMemory taken within h = tt

@@ -1,5 +1,5 @@
 pub mod WordSteps
-pub mod Explained
-pub mod Enough
-pub mod Reported
 pub mod Makespans
+pub mod Explained
+pub mod SayingsRead
+pub mod Ending

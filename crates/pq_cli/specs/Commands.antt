@@ -1,76 +1,73 @@
--- Which words are which command.
-use Rattle.std.specs.Prelude.{ℕ, ◌+◌, ◌≤◌, ◌&&◌, if◌then◌else◌, List, [], ◌∷◌, map, codes, Option, Some, None, Result, Ok, Err, is_none, unwrap_or, String, string_bytes}
-use Rattle.std.specs.Str.{bytes_eq}
-use Rattle.std.specs.declared.alloc.Global.{Global}
-use Rattle.pq_io.specs.Reading.{is_between}
-use Rattle.pq_cli.specs.declared.command.Kind.{Kind}
+-- What each command is to do.
+use Rattle.std.specs.Prelude.{ℕ, ◌≡◌, ◌≤◌, List, Result, Ok, Err, Some, None}
+use Rattle.pq_io.specs.declared.text.fault.BadInput.{BadInput}
+use Rattle.pq_tape.specs.HistoryReading.{history_of}
+use Rattle.bb_problem.specs.Meaning.{Meaning}
+use Rattle.bb_problem.specs.Tree.{needed}
 use Rattle.pq_cli.specs.declared.command.Command.{Command}
-use Rattle.pq_cli.specs.declared.command.Command.TheVariants.{Solve, Bound, Check, Audit}
-use Rattle.pq_cli.specs.declared.words.reading.WordsRefusal.{WordsRefusal}
-use Rattle.pq_cli.specs.declared.words.reading.WordsRefusal.TheVariants.{BadWords}
-use Rattle.pq_cli.specs.declared.words.settings.Settings.{Settings}
-use Rattle.pq_cli.specs.Words.{◌>>=◌, settings_from, is_silent}
+use Rattle.pq_cli.specs.declared.command.Command.TheVariants as commands
+use Rattle.pq_cli.specs.declared.commands.task.Task.{Task}
+use Rattle.pq_cli.specs.declared.commands.task.Task.TheVariants.{Solve, Bound, Check}
+use Rattle.pq_cli.specs.declared.status.Status.{Status}
+use Rattle.pq_cli.specs.declared.status.Status.TheVariants as statuses
+use Rattle.pq_cli.specs.Auditing.{IsAudited}
+use Rattle.pq_cli.specs.Using.{Texts, IsSolved, IsRootBound, IsChecked}
+use Rattle.pq_cli.specs.Problems.{Used, used}
+use Rattle.pq_cli.specs.Work.{Work, Search, fault_in}
 
--- the bytes of each word
-abbrev pub texts : List (String Global) → List (List ℕ)
-texts words = map (λ w. string_bytes w) words
+-- how many nodes a search has to make for the instance that was read
+abbrev pub needed_for : {I N P : Type 0} → (I → Meaning N P) → Result I BadInput → ℕ
+needed_for meaning (Ok instance) = needed (meaning instance).tree (meaning instance).least
+needed_for meaning (Err fault) = 0
 
--- the number, where it lies from low to high
-abbrev pub within : ℕ → ℕ → ℕ → Option ℕ
-within low high n = if is_between low high n then Some n else None
+-- a feasible plan that no feasible plan betters
+abbrev pub solving : {I N P : Type 0} → (I → Meaning N P) → Texts I P → ℕ → ℕ → Work
+solving meaning texts nodes capacity = record {
+  first_fault = λ bytes. fault_in (texts.instance_of bytes);
+  IsAnswer = λ bytes status text. (status ≡ statuses.Ok) × IsSolved meaning texts nodes capacity bytes text;
+  search = Some (record {
+    nodes = nodes;
+    capacity = capacity;
+    needs = λ bytes. needed_for meaning (texts.instance_of bytes);
+  });
+}
 
--- A problem and a queue; one worker, 1 to 1,048,560 nodes and a capacity of at least the workers and at most
--- 1,048,576. Where they are not said, there are 100,000 nodes, and the capacity is the nodes and the workers.
-unfoldable pub solve_from : Settings → Option Command
-solve_from said = do
-  kind ← said.kind
-  queue ← said.queue
-  workers ← within 1 1 (unwrap_or said.workers 1)
-  nodes ← within 1 1048560 (unwrap_or said.nodes 100000)
-  capacity ← within workers 1048576 (unwrap_or said.capacity (nodes + workers))
-  Some (Solve kind queue workers nodes capacity)
+-- the root's bound
+abbrev pub bounding : {I P : Type 0} → Texts I P → Work
+bounding texts = record {
+  first_fault = λ bytes. fault_in (texts.instance_of bytes);
+  IsAnswer = λ bytes status text. (status ≡ statuses.Ok) × IsRootBound texts bytes text;
+  search = None;
+}
 
--- a problem, and no option
-unfoldable pub kind_alone : Settings → Option Kind
-kind_alone said = do
-  kind ← said.kind
-  if is_silent said then Some kind else None
+-- the verdict on a plan behind its instance
+abbrev pub checking : {I P : Type 0} → Texts I P → Work
+checking texts = record {
+  first_fault = λ bytes. fault_in (texts.plan_of bytes);
+  IsAnswer = IsChecked texts;
+  search = None;
+}
 
-unfoldable pub bound_from : Settings → Option Command
-bound_from said = do
-  kind ← kind_alone said
-  Some (Bound kind)
+-- the verdict on a history
+abbrev pub auditing : Work
+auditing = record {
+  first_fault = λ bytes. fault_in (history_of bytes);
+  IsAnswer = IsAudited;
+  search = None;
+}
 
-unfoldable pub check_from : Settings → Option Command
-check_from said = do
-  kind ← kind_alone said
-  Some (Check kind)
+-- what is to be done with a problem
+abbrev pub task_work : {I N P : Type 0} → (I → Meaning N P) → Texts I P → Task → Work
+task_work meaning texts (Solve nodes capacity) = solving meaning texts nodes capacity
+task_work meaning texts Bound = bounding texts
+task_work meaning texts Check = checking texts
 
--- nothing
-unfoldable pub audit_from : Settings → Option Command
-audit_from said = if is_none said.kind && is_silent said then Some Audit else None
+-- the same of the problem that a command names
+abbrev pub used_work : Used → Task → Work
+used_work u task = task_work u.meaning u.texts task
 
-abbrev pub nothing : Settings
-nothing = record { kind = None; queue = None; workers = None; nodes = None; capacity = None }
-
--- The command that the words say; None where no command reads them.
-unfoldable pub command_of : List (List ℕ) → Option Command
-command_of [] = None
-command_of (name ∷ words) =
-    if bytes_eq name (codes "solve") then settings_from nothing words >>= solve_from
-    else if bytes_eq name (codes "bound") then settings_from nothing words >>= bound_from
-    else if bytes_eq name (codes "check") then settings_from nothing words >>= check_from
-    else if bytes_eq name (codes "audit") then settings_from nothing words >>= audit_from
-    else None
-
--- what reading the words answers, where it takes no memory
-abbrev pub answer_of : Option Command → Result Command WordsRefusal
-answer_of (Some command) = Ok command
-answer_of None = Err BadWords
-
--- the numbers that a command may have
-abbrev pub HasLimits : Command → Type 0
-HasLimits (Solve kind queue workers nodes capacity) = (1 ≤ nodes) × (nodes ≤ 1048560) × (1 ≤ capacity) × (capacity ≤ 1048576)
-HasLimits (Bound kind) = Unit {0}
-HasLimits (Check kind) = Unit {0}
-HasLimits Audit = Unit {0}
+abbrev pub work_of : Command → Work
+work_of (commands.Solve kind queue workers nodes capacity) = used_work (used kind) (Solve nodes capacity)
+work_of (commands.Bound kind) = used_work (used kind) Bound
+work_of (commands.Check kind) = used_work (used kind) Check
+work_of commands.Audit = auditing

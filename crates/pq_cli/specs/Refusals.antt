@@ -1,15 +1,25 @@
 -- What becomes of a refusal on its way up.
 use Rattle.pq_io.specs.declared.text.fault.ReadRefusal.{ReadRefusal}
-use Rattle.pq_io.specs.declared.text.fault.ReadRefusal.TheVariants as read_refusals
+use Rattle.pq_io.specs.declared.text.fault.ReadRefusal.TheVariants as reads
+use Rattle.pq_io.specs.declared.input.InputRefusal.{InputRefusal}
+use Rattle.pq_io.specs.declared.input.InputRefusal.TheVariants as inputs
 use Rattle.pq_cli.specs.declared.refusal.Refusal.{Refusal}
 use Rattle.pq_cli.specs.declared.refusal.Refusal.TheVariants as refusals
 use Rattle.pq_cli.specs.declared.status.Status.{Status}
 use Rattle.pq_cli.specs.declared.status.Status.TheVariants as statuses
 
-abbrev pub refusal_of : ReadRefusal → Refusal
-refusal_of (read_refusals.BadInput fault) = refusals.BadInput fault
-refusal_of read_refusals.NoMemory = refusals.NoMemory
+-- of a reading
+abbrev pub of_reading : ReadRefusal → Refusal
+of_reading (reads.BadInput fault) = refusals.BadInput fault
+of_reading reads.NoMemory = refusals.NoMemory
 
+-- of gathering the input
+abbrev pub of_input : InputRefusal → Refusal
+of_input (inputs.BadInput fault) = refusals.BadInput fault
+of_input inputs.ReadFault = refusals.ReadFault
+of_input inputs.NoMemory = refusals.NoMemory
+
+-- of a command
 abbrev pub status_of : Refusal → Status
 status_of (refusals.BadInput fault) = statuses.BadInput fault
 status_of (refusals.NodeLimit asked limit) = statuses.NodeLimit asked limit

@@ -1,34 +1,39 @@
--- What stands in the output and in the faults where there is no answer.
-use Rattle.std.specs.Prelude.{ℕ, ◌≡◌, ◌⊎◌, ◌++◌, List, take, Option, Some}
-use Rattle.pq_io.specs.Gathering.{WritesPrefix}
-use Rattle.pq_io.specs.Streams.{Rose}
-use Rattle.pq_cli.specs.declared.command.Command.{Command}
+-- The line that says why there is no answer.
+use Rattle.std.specs.Prelude.{ℕ, List, [], ◌∷◌, ◌++◌, codes}
+use Rattle.std.specs.Fmt.{decimal}
+use Rattle.pq_io.specs.declared.text.fault.BadInput.{BadInput}
+use Rattle.pq_io.specs.declared.text.fault.Cause.{Cause}
+use Rattle.pq_io.specs.declared.text.fault.Cause.TheVariants.{Number, Word, Missing, Extra, Range, TooLarge}
 use Rattle.pq_cli.specs.declared.status.Status.{Status}
 use Rattle.pq_cli.specs.declared.status.Status.TheVariants as statuses
-use Rattle.pq_cli.specs.Answers.{IsAnswer}
-use Rattle.pq_cli.specs.Texts.{fault_text}
 
--- The line of the status was written after what stood there before, and the status stays; or a front of that
--- line was, and writing failed: the count of faults rose.
-abbrev pub IsReported : Status → List ℕ → Status → Option (List ℕ) → ℕ → ℕ → Type 0
-IsReported status before ended now failed failing = ((ended ≡ status) × (now ≡ Some (before ++ fault_text status)))
-    ⊎ ((ended ≡ statuses.WriteFault) × Rose failed failing × WritesPrefix before (fault_text status) now)
+-- how a cause is called
+abbrev pub cause_text : Cause → List ℕ
+cause_text Number = codes "number"
+cause_text Word = codes "word"
+cause_text Missing = codes "missing"
+cause_text Extra = codes "extra"
+cause_text Range = codes "range"
+cause_text TooLarge = codes "too large"
 
--- a front of some status's line was written after what stood there before
-abbrev pub IsCutLine : List ℕ → Option (List ℕ) → Type 0
-IsCutLine before now = (status : Status) × (count : ℕ) × (now ≡ Some (before ++ take count (fault_text status)))
+abbrev pub bad_input_text : BadInput → List ℕ
+bad_input_text fault = codes "line " ++ decimal fault.line ++ codes ": " ++ cause_text fault.cause ++ 10 ∷ []
 
--- the statuses at which nothing is written to the output
-abbrev pub LeavesOutput : Status → Type 0
-LeavesOutput statuses.BadWords = Unit {0}
-LeavesOutput (statuses.BadInput fault) = Unit {0}
-LeavesOutput (statuses.NodeLimit asked limit) = Unit {0}
-LeavesOutput (statuses.Full place) = Unit {0}
-LeavesOutput statuses.ReadFault = Unit {0}
-LeavesOutput statuses.NoMemory = Unit {0}
-LeavesOutput _ = ⊥
+abbrev pub node_limit_text : ℕ → ℕ → List ℕ
+node_limit_text asked limit =
+    codes "node limit: asked " ++ decimal asked ++ codes ", limit " ++ decimal limit ++ 10 ∷ []
 
--- Nothing was written to the output, or the command's answer to these bytes was, or a front of it.
-abbrev pub IsCutShort : Command → List ℕ → List ℕ → Option (List ℕ) → Type 0
-IsCutShort command bytes before now = (now ≡ Some before)
-    ⊎ ((status : Status) × (text : List ℕ) × (count : ℕ) × IsAnswer command bytes status text × (now ≡ Some (before ++ take count text)))
+abbrev pub full_text : ℕ → List ℕ
+full_text place = codes "full at place " ++ decimal place ++ 10 ∷ []
+
+-- The line of a status; the statuses that come with an answer have none.
+abbrev pub fault_text : Status → List ℕ
+fault_text statuses.Ok = []
+fault_text statuses.Illegal = []
+fault_text statuses.BadWords = codes "bad words\n"
+fault_text (statuses.BadInput fault) = bad_input_text fault
+fault_text (statuses.NodeLimit asked limit) = node_limit_text asked limit
+fault_text (statuses.Full place) = full_text place
+fault_text statuses.ReadFault = codes "read fault\n"
+fault_text statuses.WriteFault = codes "write fault\n"
+fault_text statuses.NoMemory = codes "no memory\n"

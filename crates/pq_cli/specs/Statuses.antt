@@ -1,4 +1,4 @@
--- The numbers of the statuses.
+-- The numbers of the statuses, and which of them come with an answer.
 use Rattle.std.specs.Prelude.{ℕ}
 use Rattle.pq_cli.specs.declared.status.Status.{Status}
 use Rattle.pq_cli.specs.declared.status.Status.TheVariants as statuses
@@ -13,3 +13,9 @@ code_of (statuses.Full place) = 5
 code_of statuses.ReadFault = 6
 code_of statuses.WriteFault = 7
 code_of statuses.NoMemory = 8
+
+-- the statuses that come with an answer
+abbrev pub IsAnswered : Status → Type 0
+IsAnswered statuses.Ok = Unit {0}
+IsAnswered statuses.Illegal = Unit {0}
+IsAnswered _ = ⊥

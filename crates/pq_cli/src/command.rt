@@ -1,3 +1,5 @@
+//! The commands of the program.
+
 /// Which problem a command is about.
 #[derive(Clone, Copy, Debug, PartialEq, Eq)]
 pub enum Kind {

@@ -1,24 +1,23 @@
 //! The top call: command words and input in, the answer's text and a status out.
 #![tactic(auto)]
 
-mod answering;
-mod auditing;
-mod bounding;
-mod checking;
+mod answer;
 mod command;
+mod commands;
+mod labelled;
 mod laws;
-mod lines;
+mod problem;
+mod problems;
 mod refusal;
-mod reporting;
-mod solving;
+mod report;
+mod run;
 mod status;
 #[cfg(test)]
 mod tests;
-mod top;
 mod words;
 
 pub use command::{Command, Kind, Which};
 pub use laws::solutions_are_checked;
+pub use run::run_still;
 pub use status::Status;
-pub use top::run_still;
-pub use words::{WordsRefusal, read_words};
+pub use words::{WordsRefusal, read_words, settings_are_said};

@@ -1,7 +1,9 @@
+//! Why there is no answer, and what becomes of it on its way up.
+
 ghost use Rattle.std.specs.Prelude.{◌≡◌};
 
 use crate::status::Status;
-use pq_io::{BadInput, NoMemory, ReadRefusal};
+use pq_io::{BadInput, InputRefusal, NoMemory, ReadRefusal};
 
 /// Why there is no answer to an input.
 #[derive(Clone, Copy, Debug, PartialEq, Eq)]
@@ -24,14 +26,28 @@ impl From<NoMemory> for Refusal {
 }
 
 impl From<ReadRefusal> for Refusal {
-    ghost use Rattle.pq_cli.specs.Refusals.{refusal_of};
+    ghost use Rattle.pq_cli.specs.Refusals.{of_reading};
 
-    ghost from_gives = { λ r e. e ≡ refusal_of r };
+    ghost from_gives = { λ r e. e ≡ of_reading r };
 
     fn from(refusal: ReadRefusal) -> Refusal {
         match refusal {
             ReadRefusal::BadInput(fault) => Refusal::BadInput(fault),
             ReadRefusal::NoMemory => Refusal::NoMemory,
+        }
+    }
+}
+
+impl From<InputRefusal> for Refusal {
+    ghost use Rattle.pq_cli.specs.Refusals.{of_input};
+
+    ghost from_gives = { λ r e. e ≡ of_input r };
+
+    fn from(refusal: InputRefusal) -> Refusal {
+        match refusal {
+            InputRefusal::BadInput(fault) => Refusal::BadInput(fault),
+            InputRefusal::ReadFault => Refusal::ReadFault,
+            InputRefusal::NoMemory => Refusal::NoMemory,
         }
     }
 }

@@ -1,3 +1,5 @@
+//! How a call of the program ends.
+
 ghost use Rattle.std.specs.Prelude.{◌≡◌};
 ghost use Rattle.pq_cli.specs.Statuses.{code_of};
 

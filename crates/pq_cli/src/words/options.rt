@@ -1,6 +1,10 @@
+//! What one word says, or two: the problem, or an option with its value.
+
 ghost use Rattle.std.specs.Prelude.{◌≡◌, ◌==◌, ◌<◌, length, position, IfSome};
 ghost use Rattle.std.specs.Option.{option_map};
-ghost use Rattle.pq_cli.specs.Words.{kind_of, which_of, number_in, once, with_kind, with_queue, with_workers, with_nodes, with_capacity, with_option, with_lone, behind_dashes, split_at_equals, pair_name};
+ghost use Rattle.pq_cli.specs.Words.{kind_of, which_of, number_in, once, with_kind, with_queue, with_workers};
+ghost use Rattle.pq_cli.specs.Words.{with_nodes, with_capacity, with_option, with_lone, behind_dashes, split_at_equals};
+ghost use Rattle.pq_cli.specs.Words.{pair_name};
 
 use crate::command::{Kind, Which};
 use crate::words::settings::Settings;

@@ -1,6 +1,9 @@
+//! All words: the name of a command, and what stands behind it.
+
 ghost use Rattle.std.specs.Prelude.{◌≡◌, ◌<◌, ◌≤◌, [], ◌∷◌, length, IfOk, IfSome, MatchOption};
 ghost use Rattle.pq_cli.specs.Words.{settings_from, is_silent};
-ghost use Rattle.pq_cli.specs.Commands.{HasLimits, answer_of, command_of, texts, within, solve_from, kind_alone, bound_from, check_from, audit_from};
+ghost use Rattle.pq_cli.specs.CommandWords.{HasLimits, answer_of, command_of, texts, within, solve_from, kind_alone};
+ghost use Rattle.pq_cli.specs.CommandWords.{bound_from, check_from, audit_from};
 
 use crate::command::{Command, Kind};
 use crate::words::options::{pair_name, with_lone, with_option};
@@ -28,7 +31,7 @@ pub fn read_words(_alloc: Global, words: &[String]) -> Result<Command, WordsRefu
 }
 
 // The command that the words say.
-#[tactic(auto, unfolding(crate::specs::Commands::command_of))]
+#[tactic(auto, unfolding(crate::specs::CommandWords::command_of))]
 fn command_of(words: &[String]) -> Option<Command>
     ensures exact { result ≡ command_of (texts words.now) }
     ensures limits { IfSome result HasLimits }
@@ -86,7 +89,7 @@ fn within(low: u64, high: u64, number: u64) -> Option<u64>
 }
 
 // A queue has to be named, since the queue of choice is not built yet.
-#[tactic(auto, unfolding(crate::specs::Commands::solve_from))]
+#[tactic(auto, unfolding(crate::specs::CommandWords::solve_from))]
 fn solve_from(said: Settings) -> Option<Command>
     ensures exact { result ≡ solve_from said }
     ensures limits { IfSome result HasLimits }
@@ -116,7 +119,7 @@ fn is_silent(said: &Settings) -> bool
 }
 
 // A problem, and no option.
-#[tactic(auto, unfolding(crate::specs::Commands::kind_alone))]
+#[tactic(auto, unfolding(crate::specs::CommandWords::kind_alone))]
 fn kind_alone(said: Settings) -> Option<Kind>
     ensures { result ≡ kind_alone said }
 {
@@ -124,7 +127,7 @@ fn kind_alone(said: Settings) -> Option<Kind>
     if is_silent(&said) { Some(kind) } else { None }
 }
 
-#[tactic(auto, unfolding(crate::specs::Commands::bound_from))]
+#[tactic(auto, unfolding(crate::specs::CommandWords::bound_from))]
 fn bound_from(said: Settings) -> Option<Command>
     ensures exact { result ≡ bound_from said }
     ensures limits { IfSome result HasLimits }
@@ -133,7 +136,7 @@ fn bound_from(said: Settings) -> Option<Command>
     Some(Command::Bound { kind })
 }
 
-#[tactic(auto, unfolding(crate::specs::Commands::check_from))]
+#[tactic(auto, unfolding(crate::specs::CommandWords::check_from))]
 fn check_from(said: Settings) -> Option<Command>
     ensures exact { result ≡ check_from said }
     ensures limits { IfSome result HasLimits }
@@ -142,7 +145,7 @@ fn check_from(said: Settings) -> Option<Command>
     Some(Command::Check { kind })
 }
 
-#[tactic(auto, unfolding(crate::specs::Commands::audit_from))]
+#[tactic(auto, unfolding(crate::specs::CommandWords::audit_from))]
 fn audit_from(said: Settings) -> Option<Command>
     ensures exact { result ≡ audit_from said }
     ensures limits { IfSome result HasLimits }

@@ -1,3 +1,5 @@
+//! What the words have said so far.
+
 use crate::command::{Kind, Which};
 
 /// What the words behind a command's name have said so far.

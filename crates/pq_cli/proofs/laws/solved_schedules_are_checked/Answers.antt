@@ -1,4 +1,5 @@
 use Rattle.std.proofs.Common.{◌≤◌, ◌++◌, [], ◌∷◌, ◌∙◌, ℕ, List, length, refl, ap, subst}
+use Rattle.pq_io.specs.Inputs.{longest_input}
 use Rattle.inst_text.specs.declared.plan.Claimed.{Claimed}
 use Rattle.inst_text.specs.Plans.{AreStartsOf, shop_plan_of}
 use Rattle.bb_shop.specs.Plans.{makespan}
@@ -9,21 +10,17 @@ use Rattle.pq_cli.proofs.laws.solved_schedules_are_checked.Goals as goal
 pub returns : goal.returns
 returns c = λ bytes text s size.
     let shop = s.instance in
-    let feasible = s.best.feasible in
     let claimed : Claimed (List (List ℕ)) = record { stated = makespan shop s.plan; plan = s.plan } in
     let is = (c.shop_texts_are_read.ensures (bytes ++ 10 ∷ []) shop).0 s.reads in
-    let early = c.best_starts_are_early.ensures shop s.plan is.limits s.best in
-    let shape : AreStartsOf shop s.plan = record { jobs = feasible.shaped.rows; steps = feasible.shaped.times; limits = early } in
+    let early = c.best_starts_are_early.ensures shop s.plan is.limits (record { feasible = s.feasible; cheapest = s.cheapest }) in
+    let shape : AreStartsOf shop s.plan = record { jobs = s.feasible.shaped.rows; steps = s.feasible.shaped.times; limits = early } in
     let read = c.starts_are_read_behind.ensures bytes shop claimed is (makespan_within shop s.plan is.limits early) shape
-    (subst (λ (t : List ℕ). length (bytes ++ 10 ∷ t) ≤ 67108864) s.written size) in (
+    (subst (λ (t : List ℕ). length (bytes ++ 10 ∷ t) ≤ longest_input) s.written size) in (
       claimed.stated,
       record {
         instance = shop;
         claimed = claimed;
-        verdict = Feasible;
         reads = ap (λ (t : List ℕ). shop_plan_of (bytes ++ 10 ∷ t)) s.written ∙ read;
-        judged = (feasible, refl);
-        ended = refl;
-        written = refl;
+        judged = record { verdict = Feasible; judged = (s.feasible, refl); ended = refl; written = refl };
       },
     )

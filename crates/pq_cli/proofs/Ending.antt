@@ -1,0 +1,119 @@
+-- What the status of a call says of how it ended.
+use Rattle.std.proofs.Common.{◌≡◌, ◌≤◌, ◌∙◌, ◌⊎◌, min, inl, inr, refl, sym, ap, subst, ℕ, List, Option, None, Some, IfSome, MatchOption, arith}
+use Rattle.pq_io.specs.declared.text.fault.BadInput.{BadInput}
+use Rattle.bb_pool.specs.Outcomes.{IsOverLimit, IsFullAt}
+use Rattle.pq_cli.specs.declared.command.Command.{Command}
+use Rattle.pq_cli.specs.declared.refusal.Refusal.{Refusal}
+use Rattle.pq_cli.specs.declared.refusal.Refusal.TheVariants as refusals
+use Rattle.pq_cli.specs.declared.status.Status.{Status}
+use Rattle.pq_cli.specs.declared.status.Status.TheVariants as statuses
+use Rattle.pq_cli.specs.CommandWords.{command_of}
+use Rattle.pq_cli.specs.Commands.{work_of}
+use Rattle.pq_cli.specs.Refusals.{status_of}
+use Rattle.pq_cli.specs.Statuses.{IsAnswered}
+use Rattle.pq_cli.specs.Streams.{Change, IsFailed, WereLeft, IsTaken}
+use Rattle.pq_cli.specs.Work.{Work, Search, fault_of, HasEnough, IsLimited, IsFilled}
+use Rattle.pq_cli.specs.Runs.{IsFaulty, Stops, IsWhole, IsStopped, IsCut, Ends, IsUnread, IsRun, IsReported, IsAnsweredWhole, IsComplete}
+
+-- answers
+
+not_answered : (refusal : Refusal) → IsAnswered (status_of refusal) → ⊥
+not_answered (refusals.BadInput fault) h = h
+not_answered (refusals.NodeLimit asked limit) h = h
+not_answered (refusals.Full place) h = h
+not_answered refusals.ReadFault h = h
+not_answered refusals.NoMemory h = h
+
+whole_end : {I O : Type 0} (work : Work) (status : Status) (input : Change I) (output : Change O) →
+    IsAnswered status → Ends work status input output → IsWhole work status input output
+whole_end work status input output answered (inl whole) = whole
+whole_end work status input output answered (inr (inl s)) = absurd (not_answered s.refusal (subst IsAnswered s.named answered))
+whole_end work status input output answered (inr (inr cut)) = absurd (subst IsAnswered cut.named answered)
+
+whole_run : {I O : Type 0} (words : List (List ℕ)) (status : Status) (input : Change I) (output : Change O) (said : Option Command) →
+    command_of words ≡ said → IsAnswered status →
+    MatchOption said (IsUnread status input output) (λ c. Ends (work_of c) status input output) →
+    IsAnsweredWhole words status input output
+whole_run words status input output None is answered ran = absurd (subst IsAnswered ran.bad_words answered)
+whole_run words status input output (Some c) is answered ran =
+    record { command = c; said = is; whole = whole_end (work_of c) status input output answered ran }
+
+kept_end : {E : Type 0} (status ended : Status) (faults : Change E) → IsReported status ended faults → IsAnswered ended → ended ≡ status
+kept_end status ended faults reported answered = elim reported.line [
+  | inl same ↦ same.0
+  | inr failed ↦ absurd (subst IsAnswered failed.0 answered)
+]
+
+-- at Ok and Illegal the words' command has its whole answer in the output
+pub answered_whole : {I O E : Type 0} (words : List (List ℕ)) (status ended : Status) (input : Change I) (output : Change O) (faults : Change E) →
+    IsRun words status input output → IsReported status ended faults → IsAnswered ended → IsAnsweredWhole words ended input output
+answered_whole words status ended input output faults ran reported answered =
+    let same = kept_end status ended faults reported answered in
+    rw same (whole_run words status input output (command_of words) refl (subst IsAnswered same answered) ran)
+
+-- completeness
+
+with_some : {A : Type 0} (o : Option A) (P : A → Type 0) → ((x : A) → o ≡ Some x → P x) → IfSome o P
+with_some None P f = tt
+with_some (Some x) P f = f x refl
+
+said_ends : {I O : Type 0} (words : List (List ℕ)) (c : Command) (status : Status) (input : Change I) (output : Change O) →
+    command_of words ≡ Some c → IsRun words status input output → Ends (work_of c) status input output
+said_ends words c status input output said ran =
+    subst (λ o. MatchOption o (IsUnread status input output) (λ k. Ends (work_of k) status input output)) said ran
+
+left_is : {A : Type 0} (o : Option A) (x y : A) → o ≡ Some y → IfSome o (λ z. x ≡ z) → x ≡ y
+left_is o x y is h = subst (λ p. IfSome p (λ z. x ≡ z)) is h
+
+not_limited : (search : Option Search) (bytes : List ℕ) (asked limit : ℕ) →
+    IfSome search (λ s. (s.needs bytes ≤ s.nodes) × (min s.nodes (s.needs bytes) ≤ s.capacity)) →
+    MatchOption search ⊥ (λ s. IsOverLimit (s.needs bytes) s.nodes asked limit) → ⊥
+not_limited None bytes asked limit enough h = h
+not_limited (Some s) bytes asked limit enough h = omega (arith, enough.0, h.limit_is, h.over, h.within)
+
+not_filled : (search : Option Search) (bytes : List ℕ) (place : ℕ) →
+    IfSome search (λ s. (s.needs bytes ≤ s.nodes) × (min s.nodes (s.needs bytes) ≤ s.capacity)) →
+    MatchOption search ⊥ (λ s. IsFullAt (s.needs bytes) s.nodes s.capacity place) → ⊥
+not_filled None bytes place enough h = h
+not_filled (Some s) bytes place enough h = omega (arith, enough.0, enough.1, h.below_limit, h.below_needed)
+
+-- what a refusal leaves: where the input has a reading, the limits are enough and the source did not fail, only want of
+-- memory stops the work
+no_memory : {I : Type 0} (work : Work) (input : Change I) (refusal : Refusal) (bytes : List ℕ) → input.told input.old ≡ Some bytes →
+    fault_of work bytes ≡ None → HasEnough work bytes → (IsFailed input → ⊥) → Stops work input refusal → refusal ≡ refusals.NoMemory
+no_memory work input (refusals.BadInput fault) bytes told reads enough still h =
+    let same = left_is (input.told input.old) h.bytes bytes told h.were_left in
+    let faulty = h.faulty in
+    absurd (cc (same, faulty, reads))
+no_memory work input (refusals.NodeLimit asked limit) bytes told reads enough still h =
+    let same = left_is (input.told input.old) h.bytes bytes told h.taken.were_left in
+    absurd (not_limited work.search bytes asked limit enough (rw same at h.holds.1))
+no_memory work input (refusals.Full place) bytes told reads enough still h =
+    let same = left_is (input.told input.old) h.bytes bytes told h.taken.were_left in
+    absurd (not_filled work.search bytes place enough (rw same at h.holds.1))
+no_memory work input refusals.ReadFault bytes told reads enough still h = absurd (still h)
+no_memory work input refusals.NoMemory bytes told reads enough still h = refl
+
+-- the same of all three ways in which the work ends
+answered_or_no_memory : {I O : Type 0} (work : Work) (status : Status) (input : Change I) (output : Change O) (bytes : List ℕ) →
+    input.told input.old ≡ Some bytes → fault_of work bytes ≡ None → HasEnough work bytes → (IsFailed input → ⊥) → (IsFailed output → ⊥) →
+    Ends work status input output → IsAnswered status ⊎ (status ≡ statuses.NoMemory)
+answered_or_no_memory work status input output bytes told reads enough still written (inl whole) = inl whole.answers.ended
+answered_or_no_memory work status input output bytes told reads enough still written (inr (inl s)) =
+    inr (s.named ∙ ap status_of (no_memory work input s.refusal bytes told reads enough still s.stops))
+answered_or_no_memory work status input output bytes told reads enough still written (inr (inr cut)) = absurd (written cut.failed)
+
+kept_outcome : {E : Type 0} (status ended : Status) (faults : Change E) → IsReported status ended faults → (IsFailed faults → ⊥) →
+    IsAnswered status ⊎ (status ≡ statuses.NoMemory) → IsAnswered ended ⊎ (ended ≡ statuses.NoMemory)
+kept_outcome status ended faults reported still outcome = elim reported.line [
+  | inl same ↦ rw same.0 outcome
+  | inr failed ↦ absurd (still failed.1)
+]
+
+-- where there was all that the words' command needs, there is an answer, or no memory
+pub completed : {I O E : Type 0} (words : List (List ℕ)) (status ended : Status) (input : Change I) (output : Change O) (faults : Change E) →
+    IsRun words status input output → IsReported status ended faults →
+    (c : Command) → command_of words ≡ Some c → IsComplete (work_of c) ended input output faults
+completed words status ended input output faults ran reported c said = with_some (input.told input.old) _ (λ bytes told reads enough still written reporting.
+    kept_outcome status ended faults reported reporting
+    (answered_or_no_memory (work_of c) status input output bytes told reads enough still written (said_ends words c status input output said ran)))

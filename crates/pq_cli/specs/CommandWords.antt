@@ -1,0 +1,89 @@
+-- Which words are which command.
+use Rattle.std.specs.Prelude.{ℕ, ◌+◌, ◌≤◌, ◌&&◌, if◌then◌else◌, List, [], ◌∷◌, map, codes, Option, Some, None, Result}
+use Rattle.std.specs.Prelude.{Ok, Err, is_none, unwrap_or, String, string_bytes}
+use Rattle.std.specs.Str.{bytes_eq}
+use Rattle.std.specs.declared.alloc.Global.{Global}
+use Rattle.pq_io.specs.Reading.{is_between}
+use Rattle.pq_cli.specs.declared.command.Kind.{Kind}
+use Rattle.pq_cli.specs.declared.command.Command.{Command}
+use Rattle.pq_cli.specs.declared.command.Command.TheVariants.{Solve, Bound, Check, Audit}
+use Rattle.pq_cli.specs.declared.commands.task.Task.{Task}
+use Rattle.pq_cli.specs.declared.commands.task.Task.TheVariants as tasks
+use Rattle.pq_cli.specs.declared.words.reading.WordsRefusal.{WordsRefusal}
+use Rattle.pq_cli.specs.declared.words.reading.WordsRefusal.TheVariants.{BadWords}
+use Rattle.pq_cli.specs.declared.words.settings.Settings.{Settings}
+use Rattle.pq_cli.specs.Words.{◌>>=◌, settings_from, is_silent}
+
+-- the bytes of each word
+abbrev pub texts : List (String Global) → List (List ℕ)
+texts words = map (λ w. string_bytes w) words
+
+-- the number, where it lies from low to high
+abbrev pub within : ℕ → ℕ → ℕ → Option ℕ
+within low high n = if is_between low high n then Some n else None
+
+-- A problem and a queue; one worker, 1 to 1,048,560 nodes and a capacity of at least the workers and at most
+-- 1,048,576. Where they are not said, there are 100,000 nodes, and the capacity is the nodes and the workers.
+unfoldable pub solve_from : Settings → Option Command
+solve_from said = do
+  kind ← said.kind
+  queue ← said.queue
+  workers ← within 1 1 (unwrap_or said.workers 1)
+  nodes ← within 1 1048560 (unwrap_or said.nodes 100000)
+  capacity ← within workers 1048576 (unwrap_or said.capacity (nodes + workers))
+  Some (Solve kind queue workers nodes capacity)
+
+-- a problem, and no option
+unfoldable pub kind_alone : Settings → Option Kind
+kind_alone said = do
+  kind ← said.kind
+  if is_silent said then Some kind else None
+
+unfoldable pub bound_from : Settings → Option Command
+bound_from said = do
+  kind ← kind_alone said
+  Some (Bound kind)
+
+unfoldable pub check_from : Settings → Option Command
+check_from said = do
+  kind ← kind_alone said
+  Some (Check kind)
+
+-- nothing
+unfoldable pub audit_from : Settings → Option Command
+audit_from said = if is_none said.kind && is_silent said then Some Audit else None
+
+abbrev pub nothing : Settings
+nothing = record { kind = None; queue = None; workers = None; nodes = None; capacity = None }
+
+-- The command that the words say; None where no command reads them.
+unfoldable pub command_of : List (List ℕ) → Option Command
+command_of [] = None
+command_of (name ∷ words) =
+    if bytes_eq name (codes "solve") then settings_from nothing words >>= solve_from
+    else if bytes_eq name (codes "bound") then settings_from nothing words >>= bound_from
+    else if bytes_eq name (codes "check") then settings_from nothing words >>= check_from
+    else if bytes_eq name (codes "audit") then settings_from nothing words >>= audit_from
+    else None
+
+-- what reading the words answers, where it takes no memory
+abbrev pub answer_of : Option Command → Result Command WordsRefusal
+answer_of (Some command) = Ok command
+answer_of None = Err BadWords
+
+-- the numbers that a search may have
+pub record AreLimits (n c : ℕ) : Type 0 where
+  pub nodes : (1 ≤ n) × (n ≤ 1048560)
+  pub capacity : (1 ≤ c) × (c ≤ 1048576)
+
+-- the same of what is to be done with a problem
+abbrev pub HasTaskLimits : Task → Type 0
+HasTaskLimits (tasks.Solve nodes capacity) = AreLimits nodes capacity
+HasTaskLimits _ = Unit {0}
+
+-- the same of a command
+abbrev pub HasLimits : Command → Type 0
+HasLimits (Solve kind queue workers nodes capacity) = AreLimits nodes capacity
+HasLimits (Bound kind) = Unit {0}
+HasLimits (Check kind) = Unit {0}
+HasLimits Audit = Unit {0}

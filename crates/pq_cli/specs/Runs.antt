@@ -1,0 +1,117 @@
+-- How a call of the program ends: the status that it came to, and what it did to its streams.
+use Rattle.std.specs.Prelude.{ℕ, ◌≡◌, ◌+◌, ◌⊎◌, List, [], drop, Option, Some, None, IfSome, MatchOption}
+use Rattle.pq_io.specs.declared.text.fault.BadInput.{BadInput}
+use Rattle.pq_io.specs.Inputs.{longest_input}
+use Rattle.pq_cli.specs.declared.command.Command.{Command}
+use Rattle.pq_cli.specs.declared.refusal.Refusal.{Refusal}
+use Rattle.pq_cli.specs.declared.refusal.Refusal.TheVariants as refusals
+use Rattle.pq_cli.specs.declared.status.Status.{Status}
+use Rattle.pq_cli.specs.declared.status.Status.TheVariants as statuses
+use Rattle.pq_cli.specs.CommandWords.{command_of}
+use Rattle.pq_cli.specs.Commands.{work_of}
+use Rattle.pq_cli.specs.Refusals.{status_of}
+use Rattle.pq_cli.specs.Reports.{fault_text}
+use Rattle.pq_cli.specs.Statuses.{IsAnswered}
+use Rattle.pq_cli.specs.Streams.{Change, IsSame, IsFailed, WereLeft, IsTaken, IsGained, IsGainedInPart}
+use Rattle.pq_cli.specs.Work.{Work, fault_of, HasEnough, IsLimited, IsFilled}
+
+-- The input held bytes to which this is an answer, and was taken to its end.
+pub record Answers {I : Type 0} (work : Work) (status : Status) (text : List ℕ) (input : Change I) : Type 0 where
+  pub bytes : List ℕ
+  pub taken : IsTaken input bytes
+  pub ended : IsAnswered status
+  pub answer : work.IsAnswer bytes status text
+
+-- The input held bytes that have no reading for the work, with this first fault. It was taken to its end, or to one
+-- byte more than an input may have.
+pub record IsFaulty {I : Type 0} (work : Work) (fault : BadInput) (input : Change I) : Type 0 where
+  pub bytes : List ℕ
+  pub were_left : WereLeft input bytes
+  pub faulty : fault_of work bytes ≡ Some fault
+  pub taken : IfSome (input.told input.old) (λ left. (input.told input.new ≡ Some [])
+      ⊎ (input.told input.new ≡ Some (drop (longest_input + 1) left)))
+
+-- The input held bytes of which this holds, and was taken to its end.
+pub record HeldBytes {I : Type 0} (fact : List ℕ → Type 0) (input : Change I) : Type 0 where
+  pub bytes : List ℕ
+  pub taken : IsTaken input bytes
+  pub holds : fact bytes
+
+-- Why the work has no answer to the input. That there is no memory needs no cause.
+abbrev pub Stops : {I : Type 0} → Work → Change I → Refusal → Type 0
+Stops work input (refusals.BadInput fault) = IsFaulty work fault input
+Stops work input (refusals.NodeLimit asked limit) = HeldBytes (λ bytes. IsLimited work bytes asked limit) input
+Stops work input (refusals.Full place) = HeldBytes (λ bytes. IsFilled work bytes place) input
+Stops work input refusals.ReadFault = IsFailed input
+Stops work input refusals.NoMemory = Unit {0}
+
+-- The whole answer was written.
+pub record IsWhole {I O : Type 0} (work : Work) (status : Status) (input : Change I) (output : Change O) : Type 0 where
+  pub text : List ℕ
+  pub answers : Answers work status text input
+  pub written : IsGained output text
+
+-- There is no answer, and the output is as it was.
+pub record IsStopped {I O : Type 0} (work : Work) (status : Status)
+    (input : Change I) (output : Change O) : Type 0 where
+  pub refusal : Refusal
+  pub named : status ≡ status_of refusal
+  pub stops : Stops work input refusal
+  pub same : IsSame output
+
+-- There is an answer, a prefix of which was written, and not all of it: writing failed.
+pub record IsCut {I O : Type 0} (work : Work) (status : Status) (input : Change I) (output : Change O) : Type 0 where
+  pub answered : Status
+  pub text : List ℕ
+  pub named : status ≡ statuses.WriteFault
+  pub answers : Answers work answered text input
+  pub written : IsGainedInPart output text
+  pub failed : IsFailed output
+
+-- The work ended in one of three ways.
+abbrev pub Ends : {I O : Type 0} → Work → Status → Change I → Change O → Type 0
+Ends work status input output =
+    IsWhole work status input output ⊎ (IsStopped work status input output ⊎ IsCut work status input output)
+
+-- No command reads the words, and input and output are as they were.
+pub record IsUnread {I O : Type 0} (status : Status) (input : Change I) (output : Change O) : Type 0 where
+  pub bad_words : status ≡ statuses.BadWords
+  pub unread : IsSame input
+  pub unwritten : IsSame output
+
+-- What a call with these words came to.
+abbrev pub IsRun : {I O : Type 0} → List (List ℕ) → Status → Change I → Change O → Type 0
+IsRun words status input output =
+    MatchOption (command_of words) (IsUnread status input output) (λ c. Ends (work_of c) status input output)
+
+-- The text was written, and the status stays; or a prefix of it was, and writing failed.
+abbrev pub IsWritten : {S : Type 0} → List ℕ → Status → Status → Change S → Type 0
+IsWritten text status ended stream = ((ended ≡ status) × IsGained stream text)
+    ⊎ ((ended ≡ statuses.WriteFault) × IsFailed stream × IsGainedInPart stream text)
+
+-- How the status that a call came to was reported: with an answer nothing is; else its line was written, and the call
+-- ends with it, or a prefix of that line was, and the call ends with a write fault.
+pub record IsReported {E : Type 0} (status ended : Status) (faults : Change E) : Type 0 where
+  pub silent : IsAnswered status → (ended ≡ status) × IsSame faults
+  pub line : IsWritten (fault_text status) status ended faults
+
+-- The status that the words came to, and how it was reported.
+pub record IsRunAndReported {I O E : Type 0} (words : List (List ℕ)) (ended : Status)
+    (input : Change I) (output : Change O) (faults : Change E) : Type 0 where
+  pub status : Status
+  pub ran : IsRun words status input output
+  pub reported : IsReported status ended faults
+
+-- The words' command has an answer, which was written whole.
+pub record IsAnsweredWhole {I O : Type 0} (words : List (List ℕ)) (status : Status)
+    (input : Change I) (output : Change O) : Type 0 where
+  pub command : Command
+  pub said : command_of words ≡ Some command
+  pub whole : IsWhole (work_of command) status input output
+
+-- Where the input has a reading for the work, its limits are enough and no count of faults rose, there is an answer,
+-- or no memory.
+abbrev pub IsComplete : {I O E : Type 0} → Work → Status → Change I → Change O → Change E → Type 0
+IsComplete work status input output faults = IfSome (input.told input.old) (λ bytes.
+    fault_of work bytes ≡ None → HasEnough work bytes →
+    ¬ IsFailed input → ¬ IsFailed output → ¬ IsFailed faults → IsAnswered status ⊎ (status ≡ statuses.NoMemory))

@@ -1,0 +1,84 @@
+//! The commands, each from its input to an answer or a refusal. The problem that a command names is chosen here, and
+//! nowhere else.
+
+ghost use Rattle.std.specs.Prelude.{◌≤◌, IfOk, IfErr, length};
+ghost use Rattle.pq_io.specs.Inputs.{longest_input};
+ghost use Rattle.pq_cli.specs.CommandWords.{HasLimits, HasTaskLimits};
+ghost use Rattle.pq_cli.specs.Commands.{work_of, used_work, task_work};
+ghost use Rattle.pq_cli.specs.Problems.{used};
+ghost use Rattle.pq_cli.specs.Runs.{Answers, Stops};
+ghost use Rattle.pq_cli.specs.Streams.{change};
+ghost use Rattle.pq_cli.specs.Work.{Meets};
+
+mod audit;
+mod bound;
+mod check;
+mod solve;
+mod task;
+
+use crate::answer::Answer;
+use crate::command::{Command, Kind};
+use crate::commands::audit::audit;
+use crate::commands::bound::bound;
+use crate::commands::check::check;
+use crate::commands::solve::solve;
+use crate::commands::task::Task;
+use crate::problem::UsedProblem;
+use crate::refusal::Refusal;
+use bb_knap::Knapsack;
+use bb_shop::Shop;
+use pq_io::{Source, gather_input};
+use std::alloc::Global;
+
+/// What the command answers to the input.
+#[tactic(auto, using(crate::proofs::Explained::input_stops, crate::proofs::Explained::work_stops))]
+pub fn respond<I: Source>(alloc: Global, command: Command, input: &mut I) -> Result<Answer, Refusal>
+    requires { HasLimits command }
+    ensures answers { IfOk result (λ a.
+        Answers (work_of command) a.status a.text.items (change I.left I.faults input.old input.new)) }
+    ensures stops { IfErr result (Stops (work_of command) (change I.left I.faults input.old input.new)) }
+{
+    let bytes = gather_input(alloc, input)?;
+    respond_to(alloc, command, &bytes)
+}
+
+// What the command answers to these bytes.
+fn respond_to(alloc: Global, command: Command, bytes: &[u8]) -> Result<Answer, Refusal>
+    requires { HasLimits command }
+    ensures { Meets (work_of command) bytes.now result }
+{
+    match command {
+        Command::Solve {
+            kind,
+            nodes,
+            capacity,
+            ..
+        } => on_problem(alloc, kind, Task::Solve { nodes, capacity }, bytes),
+        Command::Bound { kind } => on_problem(alloc, kind, Task::Bound, bytes),
+        Command::Check { kind } => on_problem(alloc, kind, Task::Check, bytes),
+        Command::Audit => audit(alloc, bytes),
+    }
+}
+
+// The task, done on the problem that is named. A problem has its one line here.
+fn on_problem(alloc: Global, kind: Kind, task: Task, bytes: &[u8]) -> Result<Answer, Refusal>
+    requires { HasTaskLimits task }
+    ensures { Meets (used_work (used kind) task) bytes.now result }
+{
+    match kind {
+        Kind::Knapsack => perform::<Knapsack>(alloc, task, bytes),
+        Kind::Shop => perform::<Shop>(alloc, task, bytes),
+    }
+}
+
+// The task, done on an instance of a problem that the bytes read as.
+fn perform<P: UsedProblem>(alloc: Global, task: Task, bytes: &[u8]) -> Result<Answer, Refusal>
+    requires { HasTaskLimits task }
+    ensures { Meets (task_work P.meaning P.texts task) bytes.now result }
+{
+    match task {
+        Task::Solve { nodes, capacity } => solve::<P>(alloc, bytes, nodes, capacity),
+        Task::Bound => bound::<P>(alloc, bytes),
+        Task::Check => check::<P>(alloc, bytes),
+    }
+}

@@ -1,0 +1,4 @@
+//! The problems that the program uses.
+
+mod knapsack;
+mod shop;
