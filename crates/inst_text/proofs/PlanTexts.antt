@@ -53,7 +53,7 @@ choice_at_found n (k ∷ l ∷ []) rest end c m =
     ) refl
 choice_at_found n (k ∷ l ∷ j ∷ ls) rest end c m = absurd m.spell
 
-choice_read : (n : ℕ) → IsReader (choice_at n) (MeansChoice n)
+pub choice_read : (n : ℕ) → IsReader (choice_at n) (MeansChoice n)
 choice_read n = record { taken = choice_at_taken n; found = choice_at_found n }
 
 abbrev ChoiceOf : Instance → List Line → Claimed (List ℕ) → Type 0

@@ -64,13 +64,13 @@ lines_text-append [] ks = refl
 lines_text-append (l ∷ ls) ks =
     ap (λ (t : List ℕ). words_text l ++ 10 ∷ t) (lines_text-append ls ks) ∙ sym (append_assoc (words_text l) (10 ∷ lines_text ls) (lines_text ks))
 
-lines_from-append : (n : ℕ) (ls ks : List Words) → lines_from n (ls ++ ks) ≡ lines_from n ls ++ lines_from (n + length ls) ks
+pub lines_from-append : (n : ℕ) (ls ks : List Words) → lines_from n (ls ++ ks) ≡ lines_from n ls ++ lines_from (n + length ls) ks
 lines_from-append n [] ks = ap (λ m. lines_from m ks) (let e : n ≡ n + 0 = omega arith in e)
 lines_from-append n (l ∷ ls) ks =
     let e : n + 1 + length ls ≡ n + length (l ∷ ls) = omega arith in
     ap (λ (t : List Line). record { number = n; words = l } ∷ t) (lines_from-append (n + 1) ls ks ∙ ap (λ m. lines_from (n + 1) ls ++ lines_from m ks) e)
 
-plain-append : (ls ks : List Words) → AllByRecursion IsPlainLine ls → AllByRecursion IsPlainLine ks → AllByRecursion IsPlainLine (ls ++ ks)
+pub plain-append : (ls ks : List Words) → AllByRecursion IsPlainLine ls → AllByRecursion IsPlainLine ks → AllByRecursion IsPlainLine (ls ++ ks)
 plain-append [] ks p q = q
 plain-append (l ∷ ls) ks p q = (p.0, plain-append ls ks p.1 q)
 

@@ -58,7 +58,7 @@ numbers_count : (low n : ℕ) (ks : List ℕ) → low ≤ n → AreNumbers low n
 numbers_count low n [] le are = omega arith
 numbers_count low n (k ∷ ks) le are = let below = are.1 in omega (arith, are.0, numbers_count (k + 1) n ks (omega arith) are.2)
 
-choice_written : (n : ℕ) (c : Claimed (List ℕ)) → n ≤ item_limit → c.stated ≤ stated_limit → AreNumbers 0 n c.plan → Writes SpellChoice (choice_lines c.stated c.plan) c 10000
+pub choice_written : (n : ℕ) (c : Claimed (List ℕ)) → n ≤ item_limit → c.stated ≤ stated_limit → AreNumbers 0 n c.plan → Writes SpellChoice (choice_lines c.stated c.plan) c 10000
 choice_written n c few limit are =
     let within = numbers_within 0 n c.plan few are in
     let stated = decimal_plain c.stated (omega arith) in
