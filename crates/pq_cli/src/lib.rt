@@ -9,7 +9,7 @@ mod laws;
 mod problem;
 mod problems;
 mod refusal;
-mod report;
+mod reporting;
 mod run;
 mod status;
 #[cfg(test)]
@@ -18,6 +18,7 @@ mod words;
 
 pub use command::{Command, Kind, Which};
 pub use laws::solutions_are_checked;
+pub use reporting::report;
 pub use run::run_still;
 pub use status::Status;
 pub use words::{WordsRefusal, read_words, settings_are_said};

@@ -9,7 +9,7 @@ ghost use Rattle.pq_cli.specs.Statuses.{IsAnswered};
 ghost use Rattle.pq_cli.specs.Streams.{change};
 
 use crate::commands::respond;
-use crate::report::report;
+use crate::reporting::report;
 use crate::status::Status;
 use crate::words::{WordsRefusal, read_words};
 use pq_io::{Sink, Source, put_all};
