@@ -4,3 +4,4 @@ pub mod Thresholds
 pub mod Bounds
 pub mod Branching
 pub mod Worked
+pub mod TreeLawsHold

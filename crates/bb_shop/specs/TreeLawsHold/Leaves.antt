@@ -39,7 +39,7 @@ IsSound-opened s = record {
 }
 
 -- an operation that has been dispatched is one of those before, or the new one
-started_cases : (s : JobShop) (st : State) (d j k : ℕ) → IsState s st → IsLeft s st d → IsStarted (dispatched s st d) j k → IsStarted st j k ⊎ ((j ≡ d) × (k ≡ step_of st d))
+pub started_cases : (s : JobShop) (st : State) (d j k : ℕ) → IsState s st → IsLeft s st d → IsStarted (dispatched s st d) j k → IsStarted st j k ⊎ ((j ≡ d) × (k ≡ step_of st d))
 started_cases s st d j k is left started =
     elim (cases_eq j d) [
       | inl same ↦
@@ -52,7 +52,7 @@ started_cases s st d j k is left started =
     ]
 
 -- what has been dispatched keeps its start
-start-old : (s : JobShop) (st : State) (d j k : ℕ) → IsState s st → IsLeft s st d → IsStarted st j k → start_at (dispatched s st d).starts j k ≡ start_at st.starts j k
+pub start-old : (s : JobShop) (st : State) (d j k : ℕ) → IsState s st → IsLeft s st d → IsStarted st j k → start_at (dispatched s st d).starts j k ≡ start_at st.starts j k
 start-old s st d j k is left started =
     elim (cases_eq j d) [
       | inl same ↦
@@ -61,27 +61,27 @@ start-old s st d j k is left started =
       | inr other ↦ ap (λ (row : List ℕ). get_or row k 0) (starts_of-other s st d j other)
     ]
 
-end-old : (s : JobShop) (st : State) (d j k : ℕ) → IsState s st → IsLeft s st d → IsStarted st j k → end_at s (dispatched s st d).starts j k ≡ end_at s st.starts j k
+pub end-old : (s : JobShop) (st : State) (d j k : ℕ) → IsState s st → IsLeft s st d → IsStarted st j k → end_at s (dispatched s st d).starts j k ≡ end_at s st.starts j k
 end-old s st d j k is left started = ap (λ t. t + (operation_at s j k).time) (start-old s st d j k is left started)
 
 -- the new operation starts once its job and its machine are ready
-start-new : (s : JobShop) (st : State) (d : ℕ) → IsState s st → IsLeft s st d → start_at (dispatched s st d).starts d (step_of st d) ≡ next_start s st d
+pub start-new : (s : JobShop) (st : State) (d : ℕ) → IsState s st → IsLeft s st d → start_at (dispatched s st d).starts d (step_of st d) ≡ next_start s st d
 start-new s st d is left =
     ap (λ (row : List ℕ). get_or row (step_of st d) 0) (starts_of-same s st d (omega (arith, is.starts, left.0)))
     ∙ get_or_push (starts_of st d) (next_start s st d) 0 (step_of st d) refl
 
-end-new : (s : JobShop) (st : State) (d : ℕ) → IsState s st → IsLeft s st d → end_at s (dispatched s st d).starts d (step_of st d) ≡ next_end s st d
+pub end-new : (s : JobShop) (st : State) (d : ℕ) → IsState s st → IsLeft s st d → end_at s (dispatched s st d).starts d (step_of st d) ≡ next_end s st d
 end-new s st d is left = ap (λ t. t + (next_of s st d).time) (start-new s st d is left)
 
 -- ready times grow
-job-grows : (s : JobShop) (st : State) (d j : ℕ) → IsState s st → IsLeft s st d → number_in st.jobs j ≤ number_in (dispatched s st d).jobs j
+pub job-grows : (s : JobShop) (st : State) (d j : ℕ) → IsState s st → IsLeft s st d → number_in st.jobs j ≤ number_in (dispatched s st d).jobs j
 job-grows s st d j is left =
     elim (cases_eq j d) [
       | inl same ↦ rw same (omega (arith, job-same s st d (omega (arith, is.jobs, left.0))))
       | inr other ↦ omega (arith, job-other s st d j other)
     ]
 
-machine-grows : (s : JobShop) (st : State) (d m : ℕ) → IsJobShop s → IsState s st → IsLeft s st d → number_in st.machines m ≤ number_in (dispatched s st d).machines m
+pub machine-grows : (s : JobShop) (st : State) (d m : ℕ) → IsJobShop s → IsState s st → IsLeft s st d → number_in st.machines m ≤ number_in (dispatched s st d).machines m
 machine-grows s st d m shop is left =
     elim (cases_eq m (next_of s st d).machine) [
       | inl same ↦ rw same (omega (arith, machine-same s st d (omega (arith, is.machines, next_machine-lt s st d shop left))))

@@ -175,7 +175,7 @@ ready-dispatched s plan st j feasible state keeps left i is =
     ]
 
 -- what is left after a dispatching was left before, and of the same job it comes later
-left_before : (s : JobShop) (st : State) (j i h : ℕ) → IsState s st → IsLeft s st j → step_of (dispatched s st j) i ≤ h → (step_of st i ≤ h) × (i ≡ j → step_of st j < h)
+pub left_before : (s : JobShop) (st : State) (j i h : ℕ) → IsState s st → IsLeft s st j → step_of (dispatched s st j) i ≤ h → (step_of st i ≤ h) × (i ≡ j → step_of st j < h)
 left_before s st j i h state left later =
     elim (cases_eq i j) [
       | inl e ↦

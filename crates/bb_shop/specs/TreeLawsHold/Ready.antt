@@ -155,7 +155,7 @@ row_end-le limit (o ∷ os) [] each = omega arith
 row_end-le limit (o ∷ os) (t ∷ ts) each =
     omega (arith, each 0 (omega arith), row_end-le limit os ts (λ k lt. each (suc k) (omega (arith, lt))))
 
-rows_end-le : (limit : ℕ) (rows : List (List Operation)) (starts : List (List ℕ)) → ((j k : ℕ) → k < length (get_or starts j []) → start_at starts j k + (step_at (row_at rows j) k).time ≤ limit) → rows_end rows starts ≤ limit
+pub rows_end-le : (limit : ℕ) (rows : List (List Operation)) (starts : List (List ℕ)) → ((j k : ℕ) → k < length (get_or starts j []) → start_at starts j k + (step_at (row_at rows j) k).time ≤ limit) → rows_end rows starts ≤ limit
 rows_end-le limit [] starts each = omega arith
 rows_end-le limit (r ∷ rs) [] each = omega arith
 rows_end-le limit (r ∷ rs) (t ∷ ts) each =

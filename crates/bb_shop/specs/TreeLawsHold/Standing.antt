@@ -50,6 +50,15 @@ bound_by-is s st =
     ap (λ fs. max (greatest fs) (max (greatest machines) (greatest (each_from (λ m. machine_bound (whole_load s steps jobs machines m)) 0 s.machines)))) finishes
     ∙ ap (λ fs. max (greatest (each_from (λ j. finish machines (number_in jobs j) (drop (step_of st j) (row_at s.rows j))) 0 (length s.rows))) (max (greatest machines) (greatest fs))) machine_bounds
 
+-- the finishes and the ready times are part of the bound
+pub finishes-le : (s : JobShop) (steps jobs machines : List ℕ) → greatest (each_from (finish_at s steps jobs machines) 0 (length s.rows)) ≤ bound_by s steps jobs machines
+unfolding bound_by
+finishes-le s steps jobs machines = omega arith
+
+pub machines-le : (s : JobShop) (steps jobs machines : List ℕ) → greatest machines ≤ bound_by s steps jobs machines
+unfolding bound_by
+machines-le s steps jobs machines = omega arith
+
 -- the root's lists
 map-replicate : (n : ℕ) → map length (replicate {A = List ℕ} n []) ≡ replicate n 0
 map-replicate zero = refl
