@@ -2,7 +2,9 @@
 #![tactic(auto)]
 
 mod answers;
+pub mod checks;
 mod gates;
+mod holds;
 mod laws;
 mod plain;
 mod queue;
@@ -11,6 +13,7 @@ mod tests;
 
 pub use answers::{Below, CloseRefusal, CloseWhy, Closed, Inserted, Removed};
 pub use gates::{Gate, Open, Point};
+pub use holds::{Hold, Pair};
 pub use laws::{
     below_where_the_least_is, calls_are_steps, empty_where_nothing_is_left, full_with_one_seat,
     one_seat_has_made_all, one_seat_steps, places_are_calls, sizes_are_bounded,

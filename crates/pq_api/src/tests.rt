@@ -1,2 +1,3 @@
-mod scripts;
-mod sorting;
+//! Tests of the gates and the plain queue.
+mod gates;
+mod plain;
