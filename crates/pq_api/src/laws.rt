@@ -1,5 +1,6 @@
 //! Laws of what a pass knows.
-ghost use Rattle.pq_api.specs.Laws.{SizesAreBounded, CallsAreSteps, PlacesAreCalls, FullWithOneSeat, EmptyWhereNothingIsLeft, BelowWhereTheLeastIs, OneSeatHasMadeAll, OneSeatSteps};
+ghost use Rattle.pq_api.specs.Laws.{SizesAreBounded, CallsAreSteps, PlacesAreCalls, OneSeatHasMadeAll};
+ghost use Rattle.pq_api.specs.Laws.{OneSeatSteps, FullWithOneSeat, EmptyWhereNothingIsLeft, BelowWhereTheLeastIs};
 
 /// Law: a legal history never leaves more entries than the capacity.
 pub fn sizes_are_bounded()

@@ -34,7 +34,8 @@ SpellsCall words (Insert e) Done = SpellsEntry (insert_words (codes "done")) wor
 SpellsCall words (Insert e) Full = SpellsEntry (insert_words (codes "full")) words e
 SpellsCall words Remove (Got e) = SpellsEntry got_words words e
 SpellsCall words Remove Empty = words ≡ empty_words
-SpellsCall words (RemoveBelow limit) (Got e) = SpellsLimit limit (λ number. SpellsEntry (below_got_words number) words e)
+SpellsCall words (RemoveBelow limit) (Got e) =
+    SpellsLimit limit (λ number. SpellsEntry (below_got_words number) words e)
 SpellsCall words (RemoveBelow limit) Empty = SpellsLimit limit (λ number. words ≡ below_words (codes "empty") number)
 SpellsCall words (RemoveBelow limit) Above = SpellsLimit limit (λ number. words ≡ below_words (codes "above") number)
 SpellsCall words _ _ = ⊥

@@ -44,7 +44,8 @@ fn got(key: u32, id: u32) -> Reply
     Reply::Got(Entry { key, id })
 }
 
-/// Runs each row, of a capacity of at most 4, on a new queue of one seat, and gives the number of the first that was answered otherwise, with what was amiss.
+/// Runs each row, of a capacity of at most 4, on a new queue of one seat, and gives the number of the first that was
+/// answered otherwise, with what was amiss.
 pub fn one_seat_rows<R: Wait + Sync, Q: BoundedQueue<Gate = Open>>(
     rt: &R,
     alloc: Global,
