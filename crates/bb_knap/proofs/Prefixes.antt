@@ -17,7 +17,7 @@ use Rattle.bb_knap.specs.Order.{order_of}
 use Rattle.bb_knap.specs.Branching.{dantzig}
 use Rattle.bb_knap.specs.Sums.{AreSums, weight_sum_limit}
 use Rattle.bb_knap.specs.TreeLawsHold.InOrder.{weight_of-append, value_of-append, value_of-total, sum_below, total-order_below, length-order_below}
-use Rattle.bb_knap.specs.TreeLawsHold.Totals.{total_value-drop}
+use Rattle.bb_knap.proofs.Totals.{total_value-drop}
 
 -- the first numbers, one more
 pub weight_of-take_more : (items : List Item) (ks : List ℕ) (i : ℕ) → i < length ks → weight_of items (take (i + 1) ks) ≡ weight_of items (take i ks) + (item_at items (get_or ks i 0)).weight

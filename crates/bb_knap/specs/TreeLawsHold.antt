@@ -7,6 +7,3 @@ pub mod Dantzig
 pub mod Taken
 pub mod Best
 pub mod Tree
-pub mod Totals
-pub mod Sorting
-pub mod Chosen

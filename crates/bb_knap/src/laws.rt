@@ -19,7 +19,7 @@ pub fn best_is_cheapest()
 {}
 
 /// Law: decisions have a choice of just the items that they take.
-#[tactic(auto, using(crate::specs::TreeLawsHold::Chosen::some_plan))]
+#[tactic(auto, using(crate::proofs::Chosen::some_plan))]
 pub fn decisions_have_plans()
     ensures { (i : Instance) (decisions : List ℕ) → (choice : List ℕ) × IsPlanOf i decisions choice }
 {}

@@ -13,7 +13,7 @@ use Rattle.bb_knap.specs.Branching.{taken, dantzig, taken_of, rest_of, room_of, 
 use Rattle.bb_knap.specs.TreeLawsHold.Taken.{taken-left, taken-taken}
 use Rattle.bb_knap.specs.TreeLawsHold.Dantzig.{taken-none}
 use Rattle.bb_knap.specs.TreeLawsHold.Tree.{weight_of-more, children-none}
-use Rattle.bb_knap.specs.TreeLawsHold.Chosen.{some_plan}
+use Rattle.bb_knap.proofs.Chosen.{some_plan}
 use Rattle.bb_proof.specs.declared.verdict.ProofVerdict.{ProofVerdict}
 use Rattle.bb_proof.specs.declared.verdict.ProofVerdict.TheVariants.{Proved, BadWeight, BadValue, BadToken}
 use Rattle.bb_proof.specs.Tokens.{canonical_from, canonical, Accepts, IsAccepted, names_below}

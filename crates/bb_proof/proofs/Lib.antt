@@ -5,3 +5,6 @@ pub mod Complete
 pub mod Canonical
 pub mod Bad
 pub mod Worked
+pub mod ProofLines
+pub mod ProofTexts
+pub mod WrittenProofs

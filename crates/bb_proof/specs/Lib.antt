@@ -1,3 +1,4 @@
--- What proofs are, and what is found of them.
+-- What proofs and their texts are, and what is found of proofs.
 pub mod Tokens
 pub mod Verdicts
+pub mod Texts

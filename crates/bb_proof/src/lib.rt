@@ -5,6 +5,7 @@ mod laws;
 mod made;
 mod proof;
 mod proving;
+mod text;
 mod verdict;
 mod verifying;
 mod walking;
@@ -16,5 +17,8 @@ pub use laws::{
 pub use made::Made;
 pub use proof::{PROOF_LIMIT, Proof};
 pub use proving::prove;
+pub use text::{
+    proof_texts_are_read, proofs_are_read_behind, read_proof, write_proof, written_proofs_are_read,
+};
 pub use verdict::ProofVerdict;
 pub use verifying::verify;

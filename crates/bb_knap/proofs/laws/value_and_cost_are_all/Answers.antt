@@ -1,5 +1,5 @@
 use Rattle.std.proofs.Common.{length, arith}
-use Rattle.bb_knap.specs.TreeLawsHold.Totals.{value_of-le}
+use Rattle.bb_knap.proofs.Totals.{value_of-le}
 use Rattle.bb_knap.proofs.laws.value_and_cost_are_all.Goals as goal
 
 pub returns : goal.returns

@@ -6,7 +6,7 @@ use Rattle.bb_knap.specs.Order.{order_of}
 use Rattle.bb_knap.specs.Branching.{taken, taken_of}
 use Rattle.bb_knap.specs.TreeLawsHold.InOrder.{length-order_below}
 use Rattle.bb_knap.specs.TreeLawsHold.Taken.{taken-nothing}
-use Rattle.bb_knap.specs.TreeLawsHold.Chosen.{taken-more, taken-same, is_plan, AreNumbers-more}
+use Rattle.bb_knap.proofs.Chosen.{taken-more, taken-same, is_plan, AreNumbers-more}
 use Rattle.bb_knap.proofs.plan.plan.Goals as goal
 use Rattle.bb_knap.proofs.plan.plan.Goals.{then-takes+in_ok-push, else-takes}
 

@@ -1,6 +1,6 @@
 use Rattle.std.proofs.Common.{◌≡◌, [], ◌∷◌, None, sym, ◌∙◌, arith, length}
 use Rattle.bb_knap.specs.Branching.{tree_of}
-use Rattle.bb_knap.specs.TreeLawsHold.Totals.{value_of-le}
+use Rattle.bb_knap.proofs.Totals.{value_of-le}
 use Rattle.bb_proof.specs.Tokens.{first_bad}
 use Rattle.bb_proof.proofs.Accepted.{accepts_of}
 use Rattle.bb_proof.proofs.Sound.{accepted_is_below}

@@ -1,7 +1,7 @@
 use Rattle.std.proofs.Common.{◌≡◌, ◌<◌, length, get_or, ap, ◌∙◌, arith}
 use Rattle.inst_text.specs.Limits.{item_limit}
 use Rattle.bb_knap.specs.Plans.{item_at}
-use Rattle.bb_knap.specs.TreeLawsHold.Totals.{value_of-drop, value_of-le}
+use Rattle.bb_knap.proofs.Totals.{value_of-drop, value_of-le}
 use Rattle.bb_knap.proofs.Prefixes.{weight_of-drop, weight_of-numbers-le}
 use Rattle.bb_knap.proofs.knapsack.Knapsack.load_of.Goals as goal
 

@@ -11,7 +11,7 @@ use Rattle.bb_problem.specs.Tree.{total}
 use Rattle.bb_knap.specs.Plans.{item_at}
 use Rattle.bb_knap.specs.Order.{order_of}
 use Rattle.bb_knap.specs.Branching.{taken, taken_of, IsPlanOf}
-use Rattle.bb_knap.specs.TreeLawsHold.Sorting.{in_order, moved-in_order, rising-in_order}
+use Rattle.bb_knap.proofs.Sorting.{in_order, moved-in_order, rising-in_order}
 use Rattle.bb_knap.specs.TreeLawsHold.Ordered.{one_at, one_at-self}
 use Rattle.bb_knap.specs.TreeLawsHold.InOrder.{sum_below, total-permutation, total-order_below, weight_of-total, value_of-total}
 use Rattle.bb_knap.specs.TreeLawsHold.Taken.{total-taken-le}
