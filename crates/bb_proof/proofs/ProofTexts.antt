@@ -1,5 +1,5 @@
 -- What is read as an instance, a plan and a proof is spelled so and keeps the limits, and what is spelled so is read.
-use Rattle.std.proofs.Common.{◌≡◌, ℕ, Bool, List, ◌++◌, length, Result, Ok, Err}
+use Rattle.std.proofs.Common.{◌≡◌, ℕ, Bool, List, length, Result, Ok, Err}
 use Rattle.std.specs.Prelude.{IfOk, ◌↔◌}
 use Rattle.pq_io.specs.declared.text.fault.BadInput.{BadInput}
 use Rattle.pq_io.specs.declared.text.fault.ReadRefusal.{ReadRefusal}

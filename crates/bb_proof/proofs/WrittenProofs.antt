@@ -1,14 +1,12 @@
 -- The text of an instance with the text of a plan and a proof behind it is a text of the three.
-use Rattle.std.proofs.Common.{◌≡◌, ℕ, ◌+◌, ◌*◌, ◌<◌, ◌≤◌, Bool, true, false, List, [], ◌∷◌, ◌++◌, length, map, codes, decimal, Ok, refl, sym, ap, subst, ◌∙◌, arith}
+use Rattle.std.proofs.Common.{◌≡◌, ℕ, ◌+◌, ◌<◌, ◌≤◌, Bool, true, false, List, [], ◌∷◌, ◌++◌, length, map, codes, decimal, Ok, refl, ap, arith}
 use Rattle.std.specs.List.{AllByRecursion}
 use Rattle.std.proofs.lemmas.List.{length-append}
 use Rattle.pq_io.specs.Inputs.{longest_input}
-use Rattle.pq_io.specs.Lines.{Line}
 use Rattle.pq_io.specs.Writing.{words_text, lines_text, lines_from, IsPlainWord, IsPlainLine}
 use Rattle.pq_io.proofs.Plain.{decimal_plain, decimal_digits}
 use Rattle.inst_text.specs.Limits.{stated_limit}
 use Rattle.inst_text.specs.declared.plan.Claimed.{Claimed}
-use Rattle.inst_text.specs.Several.{Follow}
 use Rattle.inst_text.specs.Knapsack.{Instance, IsInstance, AreNumbers, SpellKnapsack, IsKnapsackText, knapsack_lines, knapsack_text, choice_lines}
 use Rattle.inst_text.specs.Plans.{SpellChoice}
 use Rattle.inst_text.proofs.Written.{digits_at_most, word_length, line_length, Writes, WritesEach, each_plain, each_means, each_short, lines_text-append, lines_from-append, plain-append, two_texts, two_short}

@@ -1,4 +1,4 @@
-use Rattle.std.proofs.Common.{◌≡◌, ◌≤◌, length, arith}
+use Rattle.std.proofs.Common.{◌≡◌, length, arith}
 use Rattle.bb_proof.proofs.ProofLines.{tokens_count}
 use Rattle.bb_proof.proofs.text.reading.next_proof.Goals as goal
 
