@@ -33,7 +33,7 @@ fn listed(held: &mut Vec<Entry>, capacity: u32, act: Act) -> Result<Reply, Alloc
     match act {
         Act::Insert(_) if held.len() >= capacity as usize => Ok(Reply::Full),
         Act::Insert(e) => {
-            let at = held.iter().filter(|x| **x < e).count();
+            let at = held.partition_point(|x| *x < e);
             held.insert(at, e)?;
             Ok(Reply::Done)
         }
