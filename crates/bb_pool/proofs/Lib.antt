@@ -2,6 +2,7 @@
 pub mod Members
 pub mod Totals
 pub mod Costs
+pub mod Keys
 pub mod Names
 pub mod Needs
 pub mod Counts

@@ -1,5 +1,6 @@
 -- What a search over a priority queue means, by name.
 pub mod Limits
+pub mod Keys
 pub mod Costs
 pub mod Endings
 pub mod Outcomes

@@ -14,6 +14,7 @@ use Rattle.bb_pool.specs.declared.outcome.Stop.TheVariants.{NodeLimit, Full, NoM
 use Rattle.bb_pool.specs.declared.found.Found.{Found}
 use Rattle.bb_pool.specs.declared.child.Child.{Child}
 use Rattle.bb_pool.specs.declared.state.Search.{Search}
+use Rattle.bb_pool.specs.Keys.{Holds}
 use Rattle.bb_pool.specs.Costs.{limit_of}
 use Rattle.bb_pool.specs.Endings.{EndsAt}
 use Rattle.bb_pool.specs.Outcomes.{IsBest}
@@ -33,19 +34,19 @@ IsFound m (Some found) = m.is_feasible found.plan × (found.cost ≡ m.cost_of f
 pub record IsUnderway {N P : Type 0} (m : Meaning N P) (nodes capacity : ℕ) (search : Search N P) (waiting : List (List ℕ)) : Type 0 where
   pub lawful : IsLawful m
   pub names : List (List ℕ)
-  pub searching : IsSearching m capacity names (held search.pass) search.store.items waiting (cost_so_far search.best)
+  pub searching : IsSearching m capacity names (held search.pass) search.store waiting (cost_so_far search.best)
   pub found : IsFound m search.best
-  pub calls : length search.pass.known.calls + length (held search.pass) ≡ 2 * length search.store.items
+  pub calls : length search.pass.known.calls + length (held search.pass) ≡ 2 * length search.store
   pub number : search.pass.known.number ≡ 1
-  pub within : length search.store.items ≤ nodes
+  pub within : length search.store ≤ nodes
   pub capacity_is : search.pass.capacity ≡ capacity
 
 -- the child was put into the store, and an entry for it into the queue, which had room
 pub record IsPut {N P : Type 0} (before : Search N P) (child : Child N) (now : Search N P) : Type 0 where
   pub entry : Entry
   pub key : entry.key ≡ child.key
-  pub id : entry.id ≡ length before.store.items
-  pub stored : now.store.items ≡ before.store.items ++ Some child.node ∷ []
+  pub id : entry.id ≡ length before.store
+  pub stored : now.store ≡ before.store ++ Some child.node ∷ []
   pub room : length (held before.pass) < before.pass.capacity
   pub added : held now.pass ≡ add entry (held before.pass)
   pub calls : length now.pass.known.calls ≡ length before.pass.known.calls + 1
@@ -62,7 +63,7 @@ IsNotPut before (NodeLimit asked) = ⊥
 
 -- each of these entries has a node in the store
 abbrev pub IsStored : {N : Type 0} → List (Option N) → Entry → Type 0
-IsStored {N} store e = (node : N) × (slice_get store e.id ≡ Some (Some node))
+IsStored store e = Holds store e.id
 
 -- the least entry was removed, whose key is below the best cost, and its node taken out of the store
 pub record IsTaken {N P : Type 0} (before : Search N P) (child : Child N) (now : Search N P) : Type 0 where
@@ -70,8 +71,8 @@ pub record IsTaken {N P : Type 0} (before : Search N P) (child : Child N) (now :
   pub key : child.key ≡ entry.key
   pub better : child.key < limit_of (cost_so_far before.best)
   pub first : held before.pass ≡ entry ∷ held now.pass
-  pub node : slice_get before.store.items entry.id ≡ Some (Some child.node)
-  pub emptied : now.store.items ≡ slice_set before.store.items entry.id None
+  pub node : slice_get before.store entry.id ≡ Some (Some child.node)
+  pub emptied : now.store ≡ slice_set before.store entry.id None
   pub calls : length now.pass.known.calls ≡ length before.pass.known.calls + 1
   pub number : now.pass.known.number ≡ before.pass.known.number
   pub capacity : now.pass.capacity ≡ before.pass.capacity

@@ -8,6 +8,7 @@ mod limits;
 mod outcome;
 mod plain;
 mod state;
+mod store;
 #[cfg(test)]
 mod tests;
 

@@ -12,6 +12,7 @@ use crate::children::{is_below, keep};
 use crate::found::Found;
 use crate::outcome::{Outcome, Stop};
 use crate::state::Search;
+use crate::store::Store;
 use bb_problem::{Problem, Step, needed_is_at_most_tree_size};
 use pq_api::PlainPass;
 use pq_model::left_rises;
@@ -70,9 +71,7 @@ fn begin<P: Problem>(
     ensures stops { IfErr result (IsStop (P.meaning problem.now) nodes pass.capacity) }
 {
     let root = problem.root(alloc)?;
-    let Ok(store) = Vec::with_capacity(alloc, nodes as usize) else {
-        return Err(Stop::NoMemory);
-    };
+    let store = Store::with_room(alloc, nodes as usize)?;
     let key = problem.bound(&root);
     let mut search = Search {
         pass,

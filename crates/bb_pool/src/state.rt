@@ -8,6 +8,7 @@ ghost use Rattle.pq_api.specs.Plain.{held};
 use crate::child::Child;
 use crate::found::Found;
 use crate::outcome::Stop;
+use crate::store::Store;
 use pq_api::{Below, Inserted, PlainPass, one_seat_has_made_all};
 use pq_words::{Entry, KEY_LIMIT};
 
@@ -16,7 +17,7 @@ use pq_words::{Entry, KEY_LIMIT};
 #[derive(Drop)]
 pub(crate) struct Search<N, P> {
     pub(crate) pass: PlainPass,
-    pub(crate) store: Vec<Option<N>>,
+    pub(crate) store: Store<N>,
     pub(crate) kept: Vec<Child<N>>,
     pub(crate) best: Option<Found<P>>,
 }
@@ -48,7 +49,7 @@ impl<N: Drop, P: Drop> Search<N, P> {
 
     /// Gives the child the next number, puts it into the store under it, and inserts an entry for it.
     pub(crate) fn put(&mut self, child: Child<N>) -> Result<(), Stop>
-        requires few { length self.old.store.items < id_limit }
+        requires few { length self.old.store < id_limit }
         requires calls { length self.old.pass.known.calls < call_limit - 1 }
         requires number { self.old.pass.known.number ≡ 1 }
         ensures put { IfOk result (λ _. IsPut self.old child self.new) }
@@ -56,9 +57,7 @@ impl<N: Drop, P: Drop> Search<N, P> {
     {
         let id = self.store.len() as u32;
         let Child { key, node } = child;
-        let Ok(()) = self.store.push(Some(node)) else {
-            return Err(Stop::NoMemory);
-        };
+        self.store.push(node)?;
         match self.pass.add(Entry { key, id }) {
             Inserted::Done(_) => Ok(()),
             Inserted::Full(receipt) => {
@@ -73,16 +72,14 @@ impl<N: Drop, P: Drop> Search<N, P> {
     /// Removes the least entry and takes its node out of the store, where its key is below the best cost, and
     /// gives `None` where there is no such entry.
     pub(crate) fn take(&mut self) -> Option<Child<N>>
-        requires stored { All (IsStored self.old.store.items) (held self.old.pass) }
+        requires stored { All (IsStored self.old.store) (held self.old.pass) }
         requires calls { length self.old.pass.known.calls < call_limit - 1 }
         ensures { MatchOption result (IsSpent self.old self.new) (λ child. IsTaken self.old child self.new) }
     {
         let limit = self.limit();
         match self.pass.take_below(limit) {
             Below::Got(e, _) => {
-                let Some(node) = self.store[e.id as usize].take() else {
-                    unreachable!()
-                };
+                let node = self.store.take(e.id as usize);
                 Some(Child { key: e.key, node })
             }
             Below::Empty(_) | Below::Above(_) => None,

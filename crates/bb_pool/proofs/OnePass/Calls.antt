@@ -27,8 +27,8 @@ use Rattle.bb_pool.proofs.OnePass.Turns.{same_search}
 one_more : (before now : Known) (place : ℕ) (act : Act) (reply : Reply) → now ≡ with_call before place act reply → length now.calls ≡ length before.calls + 1
 one_more before now place act reply is = ap (λ (k : Known). length k.calls) is ∙ length-append before.calls (call place act reply ∷ [])
 
-pub put_made : {N P : Type 0} {before now : Search N P} {child : Child N} (e : Entry) (place : ℕ) → length (held before.pass) < before.pass.capacity → now.pass.known ≡ with_call before.pass.known place (Insert e) Done → held now.pass ≡ add e (held before.pass) → e.key ≡ child.key → e.id ≡ length before.store.items
-    → now.store.items ≡ before.store.items ++ Some child.node ∷ [] → now.pass.capacity ≡ before.pass.capacity → now.best ≡ before.best → now.kept ≡ before.kept → IsPut before child now
+pub put_made : {N P : Type 0} {before now : Search N P} {child : Child N} (e : Entry) (place : ℕ) → length (held before.pass) < before.pass.capacity → now.pass.known ≡ with_call before.pass.known place (Insert e) Done → held now.pass ≡ add e (held before.pass) → e.key ≡ child.key → e.id ≡ length before.store
+    → now.store ≡ before.store ++ Some child.node ∷ [] → now.pass.capacity ≡ before.pass.capacity → now.best ≡ before.best → now.kept ≡ before.kept → IsPut before child now
 put_made {before} {now} e place room called added key id stored capacity best kept = record {
   entry = e;
   key = key;
@@ -44,7 +44,7 @@ put_made {before} {now} e place room called added key id stored capacity best ke
 }
 
 pub take_made : {N P : Type 0} {before now : Search N P} {child : Child N} (e : Entry) (place limit : ℕ) → limit ≡ limit_of (cost_so_far before.best) → e.key < limit → now.pass.known ≡ with_call before.pass.known place (RemoveBelow limit) (Got e) → least (held before.pass) ≡ Some e → held now.pass ≡ without_least (held before.pass) → child.key ≡ e.key
-    → slice_get before.store.items e.id ≡ Some (Some child.node) → now.store.items ≡ set before.store.items e.id None → now.pass.capacity ≡ before.pass.capacity → now.best ≡ before.best → IsTaken before child now
+    → slice_get before.store e.id ≡ Some (Some child.node) → now.store ≡ set before.store e.id None → now.pass.capacity ≡ before.pass.capacity → now.best ≡ before.best → IsTaken before child now
 take_made {before} {now} e place limit is below called first rest key node emptied capacity best = record {
   entry = e;
   key = key;
@@ -82,12 +82,12 @@ least_above limit [] above = tt
 least_above limit (x ∷ xs) above = above
 
 -- a search whose queue has had no call yet, with the root still to be put
-pub begun : {N P : Type 0} {m : Meaning N P} (nodes : ℕ) (before : Search N P) → IsLawful m → before.pass.known ≡ fresh 1 → before.store.items ≡ [] → before.best ≡ None
+pub begun : {N P : Type 0} {m : Meaning N P} (nodes : ℕ) (before : Search N P) → IsLawful m → before.pass.known ≡ fresh 1 → before.store ≡ [] → before.best ≡ None
     → IsUnderway m nodes before.pass.capacity before ([] ∷ [])
 begun {m} nodes before laws is empty none =
     let nothing : held before.pass ≡ [] = ap (λ (k : Known). left (marks_of k)) is in
     let calls : before.pass.known.calls ≡ [] = ap (λ (k : Known). k.calls) is in
-    let length_calls : length before.pass.known.calls ≡ 0 = ap length calls in let length_held : length (held before.pass) ≡ 0 = ap length nothing in let length_store : length before.store.items ≡ 0 = ap length empty in
+    let length_calls : length before.pass.known.calls ≡ 0 = ap length calls in let length_held : length (held before.pass) ≡ 0 = ap length nothing in let length_store : length before.store ≡ 0 = ap length empty in
     record {
       lawful = laws;
       names = [];

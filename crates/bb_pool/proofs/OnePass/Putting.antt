@@ -20,7 +20,7 @@ pub record IsPutting {N P : Type 0} (m : Meaning N P) (nodes capacity made : ℕ
   pub waiting : List (List ℕ)
   pub keyed : AreKeyed m (reverse kept) waiting
   pub underway : IsUnderway m nodes capacity search waiting
-  pub room : length search.store.items + length kept ≤ nodes
+  pub room : length search.store + length kept ≤ nodes
   pub calls : made ≤ length search.pass.known.calls
 
 keyed_length : {N P : Type 0} (m : Meaning N P) (children : List (Child N)) (names : List (List ℕ)) → AreKeyed m children names → length children ≡ length names
@@ -60,31 +60,31 @@ kept_waits m nodes capacity search children kept best (waiting, all, u) is keeps
 
 -- more nodes are asked for than the limit is, and no more than are needed
 pub too_many : {N P : Type 0} (m : Meaning N P) (nodes capacity : ℕ) (search : Search N P) (children : List N) (kept : List (Child N)) (best : Option ℕ)
-    → Waits m nodes capacity search children → best ≡ cost_so_far search.best → AreKept m best children kept → length search.store.items + length kept ≤ needed m.tree m.least
+    → Waits m nodes capacity search children → best ≡ cost_so_far search.best → AreKept m best children kept → length search.store + length kept ≤ needed m.tree m.least
 too_many m nodes capacity search children kept best waits is keeps = let k = kept_waits m nodes capacity search children kept best waits is keeps in
     let same = keyed_length m (reverse kept) k.0 k.1 in let turned = length-reverse kept in
     let few = length-total (λ (name : List ℕ). 1 + need_at m.tree m.least name) k.0 (λ n. omega arith) in let budget = k.2.searching.counted.budget in omega arith
 
 pub putting_begun : {N P : Type 0} (m : Meaning N P) (nodes capacity : ℕ) (search : Search N P) (now : Search N P) (children : List N) (best : Option ℕ)
-    → Waits m nodes capacity search children → best ≡ cost_so_far search.best → AreKept m best children now.kept.items → length now.store.items + length now.kept.items ≤ nodes
+    → Waits m nodes capacity search children → best ≡ cost_so_far search.best → AreKept m best children now.kept.items → length now.store + length now.kept.items ≤ nodes
     → now.pass ≡ search.pass → now.store ≡ search.store → now.best ≡ search.best → IsPutting m nodes capacity (length search.pass.known.calls) now now.kept.items
 putting_begun m nodes capacity search now children best waits is keeps room pass store same = let k = kept_waits m nodes capacity search children now.kept.items best waits is keeps in
     let calls = ap (λ p. length p.known.calls) pass in
     record { waiting = k.0; keyed = k.1; underway = same_fields now pass store same k.2; room = room; calls = omega arith }
 
 put_first : {N P : Type 0} {m : Meaning N P} {nodes capacity made : ℕ} {search now : Search N P} {child : Child N} {waiting : List (List ℕ)} (rest : List (Child N))
-    → AreKeyed m (child ∷ reverse rest) waiting → IsUnderway m nodes capacity search waiting → made ≤ length search.pass.known.calls → length search.store.items + 1 + length rest ≤ nodes → IsPut search child now → IsPutting m nodes capacity made now rest
+    → AreKeyed m (child ∷ reverse rest) waiting → IsUnderway m nodes capacity search waiting → made ≤ length search.pass.known.calls → length search.store + 1 + length rest ≤ nodes → IsPut search child now → IsPutting m nodes capacity made now rest
 put_first {waiting = []} rest keyed u calls room p = absurd keyed
 put_first {search} {now} {child} {waiting = name ∷ waiting} rest keyed u calls room p = record {
   waiting = waiting;
   keyed = keyed.2;
   underway = put_underway name waiting child u p keyed.0 keyed.1 (omega arith);
-  room = let longer : length now.store.items ≡ length search.store.items + 1 = ap length p.stored ∙ length-append search.store.items (Some child.node ∷ []) in omega arith;
+  room = let longer : length now.store ≡ length search.store + 1 = ap length p.stored ∙ length-append search.store (Some child.node ∷ []) in omega arith;
   calls = let more = p.calls in omega arith;
 }
 
 stop_first : {N P : Type 0} (m : Meaning N P) (nodes capacity : ℕ) (search : Search N P) (child : Child N) (waiting : List (List ℕ)) (rest : List (Child N)) (stop : Stop)
-    → AreKeyed m (child ∷ reverse rest) waiting → IsUnderway m nodes capacity search waiting → length search.store.items + 1 + length rest ≤ nodes → IsNotPut search stop → IsStop m nodes capacity stop
+    → AreKeyed m (child ∷ reverse rest) waiting → IsUnderway m nodes capacity search waiting → length search.store + 1 + length rest ≤ nodes → IsNotPut search stop → IsStop m nodes capacity stop
 stop_first m nodes capacity search child [] rest stop keyed u room why = absurd keyed
 stop_first m nodes capacity search child (name ∷ waiting) rest stop keyed u room why = stop_not_put m nodes capacity search name waiting stop u why (omega arith)
 
@@ -100,14 +100,14 @@ pub putting_more : {N P : Type 0} {m : Meaning N P} {nodes capacity made : ℕ} 
     → IsPutting m nodes capacity made now rest
 putting_more {m} {nodes} {search} {before} kept rest child s last pass store best p =
     let fewer = one_less kept rest child last in let room = s.room in let calls = s.calls in
-    let same_calls = ap (λ p. length p.known.calls) pass in let same_store = ap (λ v. length v.items) store in
+    let same_calls = ap (λ p. length p.known.calls) pass in let same_store = ap (λ v. length v) store in
     put_first rest (last_first m kept rest child s.waiting last s.keyed) (same_fields before pass store best s.underway) (omega arith) (omega arith) p
 
 pub putting_stops : {N P : Type 0} (m : Meaning N P) (nodes capacity : ℕ) {made : ℕ} {search : Search N P} (before : Search N P) (kept rest : List (Child N)) (child : Child N) (stop : Stop)
     → IsPutting m nodes capacity made search kept → kept ≡ rest ++ child ∷ [] → before.pass ≡ search.pass → before.store ≡ search.store → before.best ≡ search.best → IsNotPut before stop
     → IsStop m nodes capacity stop
 putting_stops m nodes capacity {search = search} before kept rest child stop s last pass store best why =
-    let fewer = one_less kept rest child last in let room = s.room in let same_store = ap (λ v. length v.items) store in
+    let fewer = one_less kept rest child last in let room = s.room in let same_store = ap (λ v. length v) store in
     stop_first m nodes capacity before child s.waiting rest stop (last_first m kept rest child s.waiting last s.keyed) (same_fields before pass store best s.underway) (omega arith) why
 
 none_waits : {N P : Type 0} {m : Meaning N P} {nodes capacity : ℕ} {search : Search N P} (waiting : List (List ℕ)) → AreKeyed m [] waiting → IsUnderway m nodes capacity search waiting → IsUnderway m nodes capacity search []

@@ -51,10 +51,10 @@ found_above (Some f) laws found = let least = laws.least_of_all f.plan found.0 i
 
 -- a child that waits is put
 pub put_underway : {N P : Type 0} {m : Meaning N P} {nodes capacity : ℕ} {before now : Search N P}
-    (name : List ℕ) (waiting : List (List ℕ)) (child : Child N) → IsUnderway m nodes capacity before (name ∷ waiting) → IsPut before child now → m.stands child.node name → child.key ≡ m.tree.bound name → length before.store.items < nodes
+    (name : List ℕ) (waiting : List (List ℕ)) (child : Child N) → IsUnderway m nodes capacity before (name ∷ waiting) → IsPut before child now → m.stands child.node name → child.key ≡ m.tree.bound name → length before.store < nodes
     → IsUnderway m nodes capacity now waiting
 put_underway {m} {before} {now} name waiting child u p st key room =
-    let longer : length now.store.items ≡ length before.store.items + 1 = ap length p.stored ∙ length-append before.store.items (Some child.node ∷ []) in
+    let longer : length now.store ≡ length before.store + 1 = ap length p.stored ∙ length-append before.store (Some child.node ∷ []) in
     let more : length (held now.pass) ≡ length (held before.pass) + 1 = ap length p.added ∙ length-add p.entry (held before.pass) in
     record {
       lawful = u.lawful;
@@ -70,7 +70,7 @@ put_underway {m} {before} {now} name waiting child u p st key room =
 
 -- a child that waits is not put
 pub stop_not_put : {N P : Type 0} (m : Meaning N P) (nodes capacity : ℕ) (before : Search N P)
-    (name : List ℕ) (waiting : List (List ℕ)) (stop : Stop) → IsUnderway m nodes capacity before (name ∷ waiting) → IsNotPut before stop → length before.store.items < nodes
+    (name : List ℕ) (waiting : List (List ℕ)) (stop : Stop) → IsUnderway m nodes capacity before (name ∷ waiting) → IsNotPut before stop → length before.store < nodes
     → IsStop m nodes capacity stop
 stop_not_put m nodes capacity before name waiting (NodeLimit asked) u why room = absurd why
 stop_not_put m nodes capacity before name waiting NoMemory u why room = tt
@@ -80,27 +80,27 @@ stop_not_put m nodes capacity before name waiting (Full place) u why room =
 
 -- the search as it stands once its least entry is removed and its node is not yet expanded
 taken_searching : {N P : Type 0} {m : Meaning N P} {nodes capacity : ℕ} {before now : Search N P} {child : Child N}
-    (u : IsUnderway m nodes capacity before []) → (t : IsTaken before child now) → IsSearching m capacity u.names (t.entry ∷ held now.pass) before.store.items [] (cost_so_far before.best)
+    (u : IsUnderway m nodes capacity before []) → (t : IsTaken before child now) → IsSearching m capacity u.names (t.entry ∷ held now.pass) before.store [] (cost_so_far before.best)
 taken_searching u t = same_search t.first refl refl u.searching
 
 -- the node taken has the name of the entry's number
 taken_stands : {N P : Type 0} {m : Meaning N P} {nodes capacity : ℕ} {before now : Search N P} {child : Child N}
     (u : IsUnderway m nodes capacity before []) → (t : IsTaken before child now) → m.stands child.node (name_at u.names t.entry.id)
-taken_stands {m} {before} {now} {child} u t = let f = All-head (StandsFor m u.names before.store.items) t.entry (held now.pass) (taken_searching u t).each in
+taken_stands {m} {before} {now} {child} u t = let f = All-head (StandsFor m u.names before.store) t.entry (held now.pass) (taken_searching u t).each in
     let stored = f.stored in let there = t.node in let same : f.node ≡ child.node = cc in subst (λ n. m.stands n (name_at u.names t.entry.id)) same f.named
 
 -- its key is its bound
 taken_keyed : {N P : Type 0} {m : Meaning N P} {nodes capacity : ℕ} {before now : Search N P} {child : Child N}
     (u : IsUnderway m nodes capacity before []) → (t : IsTaken before child now) → child.key ≡ m.tree.bound (name_at u.names t.entry.id)
-taken_keyed {m} {before} {now} {child} u t = let f = All-head (StandsFor m u.names before.store.items) t.entry (held now.pass) (taken_searching u t).each in t.key ∙ f.keyed
+taken_keyed {m} {before} {now} {child} u t = let f = All-head (StandsFor m u.names before.store) t.entry (held now.pass) (taken_searching u t).each in t.key ∙ f.keyed
 
 -- the search after the node was dealt with
 taken_underway : {N P : Type 0} {m : Meaning N P} {nodes capacity : ℕ} {before now : Search N P} {child : Child N}
     (waiting : List (List ℕ)) (best : Option (Found P)) (u : IsUnderway m nodes capacity before []) → (t : IsTaken before child now)
-    → IsFound m best → IsSearching m capacity u.names (held now.pass) (set before.store.items t.entry.id None) waiting (cost_so_far best)
+    → IsFound m best → IsSearching m capacity u.names (held now.pass) (set before.store t.entry.id None) waiting (cost_so_far best)
     → IsUnderway m nodes capacity (record now { best = best }) waiting
 taken_underway {before} {now} waiting best u t found s =
-    let same : length now.store.items ≡ length before.store.items = ap length t.emptied ∙ length-set before.store.items t.entry.id None in
+    let same : length now.store ≡ length before.store = ap length t.emptied ∙ length-set before.store t.entry.id None in
     let fewer : length (held before.pass) ≡ length (held now.pass) + 1 = let is = ap length t.first in omega arith in
     record {
       lawful = u.lawful;
@@ -196,8 +196,8 @@ left_out {search} waiting u = record {
 
 -- each entry has its node in the store
 pub each_stored : {N P : Type 0} {m : Meaning N P} {nodes capacity : ℕ} {search : Search N P} {waiting : List (List ℕ)}
-    → IsUnderway m nodes capacity search waiting → All (IsStored search.store.items) (held search.pass)
-each_stored {m} {search} u = All-weaker (StandsFor m u.names search.store.items) (IsStored search.store.items) (λ e s. (s.node, s.stored)) (held search.pass) u.searching.each
+    → IsUnderway m nodes capacity search waiting → All (IsStored search.store) (held search.pass)
+each_stored {m} {search} u = All-weaker (StandsFor m u.names search.store) (IsStored search.store) (λ e s. (s.node, s.stored)) (held search.pass) u.searching.each
 
 -- where the least key is not below a limit, none is
 from_least : (cost : ℕ) (m : List Entry) → IsRising m → IfSome (least m) (λ (e : Entry). cost ≤ e.key) → All (λ (e : Entry). cost ≤ e.key) m

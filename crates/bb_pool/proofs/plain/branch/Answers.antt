@@ -8,7 +8,7 @@ returns-then-asked-from-clause-stops g c =
     record { limit_is = refl; over = search rules; within = search (rules, few) }
 
 pub loop-child-init : goal.loop-child-init
-loop-child-init g c = let room : length c.args.search.now.store.items + length c.keep.new.kept.items ≤ c.args.nodes = search rules in
+loop-child-init g c = let room : length c.args.search.now.store + length c.keep.new.kept.items ≤ c.args.nodes = search rules in
     putting_begun (g.P.Problem.meaning c.args.problem.now) c.args.nodes c.args.search.now.pass.capacity c.args.search.now _ c.args.children.items c.best_cost-best.result c.requires.underway c.best_cost-best.ensures c.in_ok-keep.ensures room refl refl refl
 
 pub loop-child-preserved : goal.loop-child-preserved

@@ -5,7 +5,7 @@ use Rattle.bb_pool.proofs.OnePass.Places.{place_made}
 use Rattle.bb_pool.proofs.state.Search.put.Goals as goal
 
 pub returns-in-Done-clause-put : goal.returns-in-Done-clause-put
-returns-in-Done-clause-put g c = put_made _ _ c.in-Done.ensures.step c.in-Done.ensures.call.1 c.in-Done.ensures.holds refl (grind (arith, common_steps)) c.in-Ok.ensures.items c.in-Done.ensures.capacity refl refl
+returns-in-Done-clause-put g c = put_made _ _ c.in-Done.ensures.step c.in-Done.ensures.call.1 c.in-Done.ensures.holds refl (grind (arith, common_steps)) c.in_ok-push.ensures c.in-Done.ensures.capacity refl refl
 
 pub returns-in-Full-clause-refused : goal.returns-in-Full-clause-refused
 returns-in-Full-clause-refused g c = (
