@@ -1,6 +1,6 @@
 //! The pass of a plain queue, which holds the entries.
 ghost use Rattle.std.specs.Arc.{arc_value};
-ghost use Rattle.std.specs.Prelude.{◌≡◌, ℕ, ◌+◌, ◌-◌, ◌<◌, ◌≤◌, ◌↔◌, List, [], length, IfOk, IfErr, IsSomeAnd};
+ghost use Rattle.std.specs.Prelude.{◌≡◌, ℕ, ◌+◌, ◌-◌, ◌<◌, ◌≤◌, ◌↔◌, ◌==◌, List, [], length, IfOk, IfErr, IsSomeAnd};
 ghost use Rattle.pq_words.specs.Limits.{key_limit};
 ghost use Rattle.pq_words.specs.declared.entries.Entry.{Entry};
 ghost use Rattle.pq_model.specs.declared.marks.Act.TheVariants.{Insert, Remove, RemoveBelow};
@@ -70,6 +70,20 @@ impl PlainPass {
             table,
             seat,
         })
+    }
+
+    /// How many entries are held. O(1).
+    pub fn len(&self) -> usize
+        ensures { result ≡ length (held self.now) }
+    {
+        self.held.len()
+    }
+
+    /// Whether no entry is held. O(1).
+    pub fn is_empty(&self) -> bool
+        ensures { result ≡ (length (held self.now) == 0) }
+    {
+        self.held.is_empty()
     }
 
     /// Adds an entry, as `insert` of a shared queue does, and returns always. `Full` comes exactly where as
