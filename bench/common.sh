@@ -18,35 +18,35 @@ pq=${PQ-$("$top/dist/program")} || exit 70
 # The status that each timed command has to end with.
 wanted=0
 
-# Microseconds that a command takes on the input in the file $1.
+# Milliseconds of processor time that a command takes on the input in the file $1. The programs that are timed have one
+# thread, and their processor time depends less than the clock's on what else the machine does.
 run_once() {
-    local input=$1 began ended status
+    local input=$1 status TIMEFORMAT='%U %S'
     shift
-    began=$(date +%s%N)
-    "$@" <"$input" >"$build/output" 2>"$build/faults"
+    { time "$@" <"$input" >"$build/output" 2>"$build/faults"; } 2>"$build/time"
     status=$?
-    ended=$(date +%s%N)
     [ "$status" -eq "$wanted" ] || { cat "$build/faults" >&2; echo "ends with $status: $*" >&2; exit 1; }
-    echo $(((ended - began) / 1000))
+    awk '{ print 1000 * ($1 + $2) }' "$build/time"
 }
 
 # The least time that each of two commands takes, run by turns: compare NAME INPUT ROUNDS ours.. -- baseline..
 # Where the variable nodes says how many nodes each makes, also the nodes a second.
 nodes=
 compare() {
-    local name=$1 input=$2 rounds=$3 ours=() theirs=() mine=0 other=0 took
+    local name=$1 input=$2 rounds=$3 ours=() theirs=() mine other
     shift 3
+    rm -f "$build/ours" "$build/theirs"
     while [ "$1" != -- ]; do ours+=("$1"); shift; done
     shift
     theirs=("$@")
     for _ in $(seq "$rounds"); do
-        took=$(run_once "$input" "${ours[@]}") || exit 1
-        [ "$mine" -ne 0 ] && [ "$mine" -le "$took" ] || mine=$took
-        took=$(run_once "$input" "${theirs[@]}") || exit 1
-        [ "$other" -ne 0 ] && [ "$other" -le "$took" ] || other=$took
+        run_once "$input" "${ours[@]}" >>"$build/ours" || exit 1
+        run_once "$input" "${theirs[@]}" >>"$build/theirs" || exit 1
     done
+    mine=$(sort -n "$build/ours" | head -n 1)
+    other=$(sort -n "$build/theirs" | head -n 1)
     awk -v n="$name" -v a="$mine" -v b="$other" -v nodes="$nodes" 'BEGIN {
-        printf "%-44s pq %8.1f ms   plain Rust %8.1f ms   ratio %.2f\n", n, a / 1000, b / 1000, a / b
-        if (nodes != "") printf "%44s pq %8.2f      plain Rust %8.2f million nodes a second\n", "", nodes / a, nodes / b
+        printf "%-44s pq %6.0f ms   plain Rust %6.0f ms   ratio %.2f\n", n, a, b, a / b
+        if (nodes != "") printf "%44s pq %6.2f      plain Rust %6.2f million nodes a second\n", "", nodes / a / 1000, nodes / b / 1000
     }'
 }
