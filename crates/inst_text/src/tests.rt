@@ -2,6 +2,8 @@
 
 use crate::*;
 use pq_io::{BadInput, Cause, ReadRefusal};
+use pq_model::Act;
+use pq_words::Entry;
 use std::alloc::Global;
 use std::test::Fail;
 
@@ -17,6 +19,8 @@ enum Reader {
     Shop,
     Choice,
     Starts,
+    OneLane,
+    TwoLanes,
 }
 
 // What the reader refuses the text with.
@@ -26,12 +30,14 @@ fn refusal(alloc: Global, reader: Reader, bytes: &[u8]) -> Option<ReadRefusal> {
         Reader::Shop => read_shop(alloc, bytes).err(),
         Reader::Choice => read_plan_knapsack(alloc, bytes).err(),
         Reader::Starts => read_plan_shop(alloc, bytes).err(),
+        Reader::OneLane => read_script(alloc, bytes, 1).err(),
+        Reader::TwoLanes => read_script(alloc, bytes, 2).err(),
     }
 }
 
 #[test]
 fn first_faults(rt: HostRuntime) {
-    let rows: [(Reader, &[u8], u32, Cause); 58] = [
+    let rows: [(Reader, &[u8], u32, Cause); 73] = [
         (Reader::Knapsack, b"2 5\n1 67108863\n1 1\n", 3, Cause::Range),
         (Reader::Knapsack, b"1 5\nx 3\n", 2, Cause::Number),
         (Reader::Knapsack, b"1 5\n2 3\n4 4\n", 3, Cause::Extra),
@@ -155,6 +161,21 @@ fn first_faults(rt: HostRuntime) {
             Cause::Extra,
         ),
         (Reader::Starts, b"1 1\n0 0\n", 3, Cause::Missing),
+        (Reader::OneLane, b"+ 67108864 0\n", 1, Cause::Range),
+        (Reader::OneLane, b"+ 0 4194304\n", 1, Cause::Range),
+        (Reader::OneLane, b"+ 1\n", 1, Cause::Missing),
+        (Reader::OneLane, b"+ x 1\n", 1, Cause::Number),
+        (Reader::OneLane, b"+ 1 1 1\n", 1, Cause::Extra),
+        (Reader::OneLane, b"- 1\n", 1, Cause::Extra),
+        (Reader::OneLane, b"# none\n\n<\n", 3, Cause::Missing),
+        (Reader::OneLane, b"< 67108865\n", 1, Cause::Range),
+        (Reader::OneLane, b"< -1\n", 1, Cause::Number),
+        (Reader::OneLane, b"< 1 1\n", 1, Cause::Extra),
+        (Reader::OneLane, b"-\n+1 1\n", 2, Cause::Word),
+        (Reader::OneLane, b"+ 1 1\nlane\n-\n", 2, Cause::Range),
+        (Reader::OneLane, b"lane x\n", 1, Cause::Range),
+        (Reader::TwoLanes, b"lane x\n", 1, Cause::Extra),
+        (Reader::TwoLanes, b"lane\n-\nlane\n", 3, Cause::Range),
     ];
     for (reader, bytes, line, cause) in rows {
         let fault = ReadRefusal::BadInput(BadInput { line, cause });
@@ -289,5 +310,97 @@ fn starts(rt: HostRuntime) -> Result<(), Fail> {
         text.as_slice(),
         b"makespan 15\n0 3 67108863\n12\n".as_slice()
     );
+    Ok(())
+}
+
+#[test]
+fn scripts(rt: HostRuntime) -> Result<(), Fail> {
+    let acts = [
+        Act::Insert(Entry {
+            key: 67_108_863,
+            id: 4_194_303,
+        }),
+        Act::Remove,
+        Act::RemoveBelow(67_108_864),
+        Act::RemoveBelow(0),
+    ];
+    let rows: [(&[u8], usize, &[Act]); 4] = [
+        (b"", 1, &[]),
+        (b"+ 67108863 4194303\n-\n< 67108864\n< 0", 1, &acts),
+        (
+            b"# head\n\n+ 67108863\t04194303 \r\n-\nlane\n # none\nlane\n< 67108864\n< 0\n",
+            3,
+            &acts,
+        ),
+        (
+            b"lane\nlane\nlane\nlane\nlane\nlane\nlane\nlane\nlane\nlane\nlane\nlane\nlane\nlane\nlane\n",
+            16,
+            &[],
+        ),
+    ];
+    for (bytes, lanes, expected) in rows {
+        let script = read_script(rt.alloc(), bytes, 16).ok().ok_or("a script")?;
+        assert_eq!(rt; script.lanes.len(), lanes);
+        let mut all = Vec::new(rt.alloc());
+        for lane in &script.lanes {
+            all.extend_from_slice(lane)?;
+        }
+        assert_eq!(rt; all.as_slice(), expected);
+    }
+    Ok(())
+}
+
+#[test]
+fn longest_scripts(rt: HostRuntime) -> Result<(), Fail> {
+    let mut text = Vec::new(rt.alloc());
+    for _ in 0..COMMAND_LIMIT {
+        text.extend_from_slice(b"-\n")?;
+    }
+    let script = read_script(rt.alloc(), &text, 1).ok().ok_or("a script")?;
+    assert_eq!(rt; script.lanes.len(), 1);
+    assert_eq!(rt; script.lanes[0].len(), COMMAND_LIMIT as usize);
+    text.extend_from_slice(b"x")?;
+    for (byte, cause) in [
+        (b'-', Cause::Extra),
+        (b'+', Cause::Extra),
+        (b'x', Cause::Word),
+    ] {
+        if let Some(last) = text.last_mut() {
+            *last = byte;
+        }
+        let fault = ReadRefusal::BadInput(BadInput {
+            line: COMMAND_LIMIT + 1,
+            cause,
+        });
+        assert_eq!(rt; read_script(rt.alloc(), &text, 1).err(), Some(fault));
+    }
+    Ok(())
+}
+
+#[test]
+fn made(rt: HostRuntime) -> Result<(), Fail> {
+    let smallest = make_knapsack(rt.alloc(), 0, 1).ok().ok_or("memory")?;
+    let text = write_knapsack(rt.alloc(), &smallest).ok().ok_or("memory")?;
+    assert_eq!(rt; text.as_slice(), b"1 7\n15 46\n".as_slice());
+    let smallest = make_shop(rt.alloc(), 0, 1).ok().ok_or("memory")?;
+    let text = write_shop(rt.alloc(), &smallest).ok().ok_or("memory")?;
+    assert_eq!(rt; text.as_slice(), b"1 1\n0 6\n".as_slice());
+    let greatest = make_knapsack(rt.alloc(), u32::MAX, ITEM_LIMIT)
+        .ok()
+        .ok_or("memory")?;
+    let text = write_knapsack(rt.alloc(), &greatest).ok().ok_or("memory")?;
+    let again = read_knapsack(rt.alloc(), &text).ok().ok_or("an instance")?;
+    assert_eq!(rt; again.capacity, greatest.capacity);
+    assert_eq!(rt; again.items.as_slice(), greatest.items.as_slice());
+    let greatest = make_shop(rt.alloc(), u32::MAX, MADE_SHOP_LIMIT)
+        .ok()
+        .ok_or("memory")?;
+    let text = write_shop(rt.alloc(), &greatest).ok().ok_or("memory")?;
+    let again = read_shop(rt.alloc(), &text).ok().ok_or("a shop")?;
+    assert_eq!(rt; again.rows.len(), greatest.rows.len());
+    let longest = make_script(rt.alloc(), u32::MAX, LANE_LIMIT, MADE_LANE_LIMIT)
+        .ok()
+        .ok_or("memory")?;
+    assert_eq!(rt; longest.lanes.len(), LANE_LIMIT as usize);
     Ok(())
 }

@@ -11,6 +11,7 @@ use crate::script::lines::{ScriptLine, line};
 use pq_io::{BadInput, ReadRefusal, TextReader, WordReader, on_line};
 use pq_model::Act;
 use std::alloc::Global;
+use std::mem;
 
 // What the line says, behind this many commands and lanes.
 fn line_of(
@@ -47,8 +48,7 @@ fn next_lanes(
                 commands += 1;
             }
             ScriptLine::NextLane => {
-                lanes.push(lane)?;
-                lane = Vec::new(alloc);
+                lanes.push(mem::replace(&mut lane, Vec::new(alloc)))?;
                 begun += 1;
             }
         }

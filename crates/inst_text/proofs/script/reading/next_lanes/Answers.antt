@@ -44,7 +44,7 @@ loop-words-smaller c = omega (arith, ap length (line_came c.loop-words.text _ _ 
 pub loop-words-preserved : goal.loop-words-preserved
 loop-words-preserved c =
     let line : on_line c.in-Ok.words.number (script_line_of c.args.allowed (record { commands = c.loop-words.commands; lanes = c.loop-words.begun }) c.in-Ok.words.words) ≡ Ok NextLane = (rw c.in-NextLane.is at (sym c.in_ok-act.ensures)) in
-    rw (c.in_ok-push-in-NextLane.ensures.items, c.new-lane-in-NextLane.ensures.items, map-append)
+    rw (c.in_ok-push-in-NextLane.ensures.items, c.replace.ensures.value, c.replace.ensures.after, c.new.ensures.items, map-append)
     (lane_read _ _ _ _ _ _ _ _ (line_came c.loop-words.text _ _ c.in-Ok.ensures) line c.loop-words.invariant)
 
 pub returns : goal.returns
