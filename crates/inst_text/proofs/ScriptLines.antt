@@ -1,10 +1,10 @@
 -- The lines of a script that were read, and those that are found where they are spelled.
-use Rattle.std.proofs.Common.{◌≡◌, ℕ, ◌^◌, ◌%◌, ◌<◌, ◌≤◌, cond, ltb, List, [], ◌∷◌, codes, Result, Ok, Err, refl, sym, ap, subst, ◌∙◌, arith, inl, inr}
+use Rattle.std.proofs.Common.{◌≡◌, ℕ, ◌<◌, cond, ltb, List, [], ◌∷◌, codes, Result, Ok, Err, refl, sym, ap, subst, ◌∙◌, arith, inl, inr}
 use Rattle.std.proofs.lemmas.Bool.{cases_Bool, ltb-true, lt-ltb}
 use Rattle.std.specs.Str.{bytes_eq}
 use Rattle.pq_io.specs.declared.text.fault.Cause.{Cause}
 use Rattle.pq_io.specs.declared.text.fault.Cause.TheVariants.{Range, Extra}
-use Rattle.pq_io.specs.Reading.{◌>>=◌, Spells, number_at, word_at, at_line_end, on_line}
+use Rattle.pq_io.specs.Reading.{◌>>=◌, number_at, word_at, at_line_end, on_line}
 use Rattle.pq_io.proofs.Binds.{ok_is, bind_ok, cond_ok, guard_ok}
 use Rattle.pq_io.proofs.Taken.{number_taken, number_found, same_word, line_ends, end_found}
 use Rattle.pq_model.specs.declared.marks.Act.TheVariants.{Insert, Remove, RemoveBelow}

@@ -2,7 +2,7 @@ use Rattle.std.proofs.Common.{◌≡◌, ℕ, List, ◌∷◌, length, map, refl
 use Rattle.std.proofs.lemmas.List.{length-map}
 use Rattle.pq_io.specs.Writing.{lines_text}
 use Rattle.inst_text.specs.Knapsack.{two_words}
-use Rattle.inst_text.specs.Shop.{JobShop, IsJobShop, row_words, shop_of, shop_text}
+use Rattle.inst_text.specs.Shop.{JobShop, IsJobShop, row_words, shop_of}
 use Rattle.inst_text.proofs.PieceByPiece.{line_written, lines_written, map_twice}
 use Rattle.inst_text.proofs.WrittenShop.{shop_text_is_read}
 use Rattle.inst_text.proofs.shop.writing.write_shop.Goals as goal
