@@ -15,5 +15,6 @@ use Rattle.pq_api.specs.Plain.{marks_of}
 pub record EndsAt (capacity cost : ℕ) (known : Known) : Type 0 where
   pub number : known.number ≡ 1
   pub knows : Knows 1 capacity known
-  pub asked : (calls : List Call) × (place : ℕ) × (reply : Reply) × (known.calls ≡ calls ++ call place (RemoveBelow cost) reply ∷ [])
+  pub asked : (calls : List Call) × (place : ℕ) × (reply : Reply)
+      × (known.calls ≡ calls ++ call place (RemoveBelow cost) reply ∷ [])
   pub at_least : IfSome (least (left (marks_of known))) (λ (e : Entry). cost ≤ e.key)

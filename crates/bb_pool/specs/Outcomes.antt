@@ -35,7 +35,8 @@ pub record IsFullAt (needs nodes capacity place : ℕ) : Type 0 where
   pub until : place < 2 * needs
 
 -- What a best plan says of a search with one caller, whose pass has then made these calls.
-pub record IsBest {N P : Type 0} (m : Meaning N P) (nodes capacity : ℕ) (plan : P) (cost : ℕ) (known : Known) : Type 0 where
+pub record IsBest {N P : Type 0} (m : Meaning N P) (nodes capacity : ℕ) (plan : P) (cost : ℕ) (known : Known)
+    : Type 0 where
   pub optimal : IsOptimal m.is_feasible m.cost_of plan cost
   pub limits : LeaveRoom m.tree m.least nodes capacity
   pub ended : EndsAt capacity cost known

@@ -1,5 +1,6 @@
 -- Where a search stands: what it has found, and where it has still to look.
-use Rattle.std.specs.Prelude.{ℕ, ◌≡◌, ◌+◌, ◌-◌, ◌≤◌, ◌<◌, List, [], ◌∷◌, length, slice_get, slice_index_or, All, Contains, ◌⊎◌, Option, Some, None, IsTrue}
+use Rattle.std.specs.Prelude.{ℕ, ◌≡◌, ◌+◌, ◌-◌, ◌≤◌, ◌<◌, List, [], ◌∷◌, length, slice_get, slice_index_or}
+use Rattle.std.specs.Prelude.{All, Contains, ◌⊎◌, Option, Some, None, IsTrue}
 use Rattle.pq_words.specs.declared.entries.Entry.{Entry}
 use Rattle.bb_problem.specs.Tree.{Tree, need, needed, unavoidable_from, unavoidable, open_from, open_at_first, total}
 use Rattle.bb_problem.specs.Meaning.{Meaning}
@@ -22,7 +23,8 @@ abbrev pub open_by : Tree → List ℕ → ℕ
 open_by tree name = open_from tree (tree.height - length name) name
 
 -- An entry stands for a node in the store: its id is the node's number, and its key the node's bound.
-pub record StandsFor {N P : Type 0} (m : Meaning N P) (names : List (List ℕ)) (store : List (Option N)) (e : Entry) : Type 0 where
+pub record StandsFor {N P : Type 0} (m : Meaning N P) (names : List (List ℕ)) (store : List (Option N)) (e : Entry)
+    : Type 0 where
   pub node : N
   pub stored : slice_get store e.id ≡ Some (Some node)
   pub named : m.stands node (name_at names e.id)
@@ -45,13 +47,15 @@ IsUnderName reaches waiting v = (name : List ℕ) × Contains waiting name × re
 -- from one that waits to be put into it.
 abbrev pub IsStillToFind : (List ℕ → ℕ → Type 0) → List (List ℕ) → List Entry → List (List ℕ) → Option ℕ → Type 0
 IsStillToFind reaches names entries waiting best =
-    (v : ℕ) → reaches [] v → IsTrue (is_better v best) → IsUnderEntry reaches names entries v ⊎ IsUnderName reaches waiting v
+    (v : ℕ) → reaches [] v → IsTrue (is_better v best)
+    → IsUnderEntry reaches names entries v ⊎ IsUnderName reaches waiting v
 
 -- With so many nodes open, this one among them, no fewer are open at the first leaf from it on than at the fewest.
 abbrev pub IsAhead : Tree → ℕ → List ℕ → Type 0
 IsAhead tree count name = open_at_first tree < count + open_by tree name
 
--- Before a plan is found, all nodes open are ahead; since then, the capacity has had room for those at the first leaf.
+-- Before a plan is found, all open nodes are ahead; since then, the capacity has had room for those that were open at
+-- the first leaf.
 abbrev pub AreAhead : Tree → ℕ → List (List ℕ) → List Entry → List (List ℕ) → Option ℕ → Type 0
 AreAhead tree capacity names entries waiting None = let count = length entries + length waiting in
     All (λ (e : Entry). IsAhead tree count (name_at names e.id)) entries × All (IsAhead tree count) waiting
@@ -59,16 +63,21 @@ AreAhead tree capacity names entries waiting (Some best) = open_at_first tree �
 
 -- The count of a search at one moment: how many nodes were made, the names of the nodes by number, the entries in
 -- the queue, and the names of the nodes that wait.
-pub record IsCounted (tree : Tree) (least capacity made : ℕ) (names : List (List ℕ)) (entries : List Entry) (waiting : List (List ℕ)) (best : Option ℕ) : Type 0 where
+pub record IsCounted (tree : Tree) (least capacity made : ℕ) (names : List (List ℕ)) (entries : List Entry)
+    (waiting : List (List ℕ)) (best : Option ℕ) : Type 0 where
   -- the nodes made, those that wait, and what all open nodes still need are never more than are needed in all
-  pub budget : made + total (λ (e : Entry). need_at tree least (name_at names e.id)) entries + total (λ (name : List ℕ). 1 + need_at tree least name) waiting ≤ needed tree least
+  pub budget : made + total (λ (e : Entry). need_at tree least (name_at names e.id)) entries
+      + total (λ (name : List ℕ). 1 + need_at tree least name) waiting ≤ needed tree least
   -- what no search gets around is made, or waits, or is below a node that is open
-  pub around : unavoidable tree least ≤ made + total (λ (e : Entry). unavoidable_at tree least (name_at names e.id) - 1) entries + total (unavoidable_at tree least) waiting
+  pub around : unavoidable tree least
+      ≤ made + total (λ (e : Entry). unavoidable_at tree least (name_at names e.id) - 1) entries
+      + total (unavoidable_at tree least) waiting
   pub ahead : AreAhead tree capacity names entries waiting best
 
 -- The search at one moment: the names of the nodes made so far by number, the entries in the queue, the store,
 -- the names of the nodes that wait to be put into both, and the cost of the best plan so far.
-pub record IsSearching {N P : Type 0} (m : Meaning N P) (capacity : ℕ) (names : List (List ℕ)) (entries : List Entry) (store : List (Option N)) (waiting : List (List ℕ)) (best : Option ℕ) : Type 0 where
+pub record IsSearching {N P : Type 0} (m : Meaning N P) (capacity : ℕ) (names : List (List ℕ)) (entries : List Entry)
+    (store : List (Option N)) (waiting : List (List ℕ)) (best : Option ℕ) : Type 0 where
   pub count : length names ≡ length store
   pub each : All (StandsFor m names store) entries
   pub differ : IdsDiffer entries

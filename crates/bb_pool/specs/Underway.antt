@@ -1,5 +1,6 @@
 -- A search with one caller, as its fields have it.
-use Rattle.std.specs.Prelude.{ℕ, ◌≡◌, ◌+◌, ◌*◌, ◌≤◌, ◌<◌, List, [], ◌∷◌, ◌++◌, length, slice_get, slice_set, Option, Some, None}
+use Rattle.std.specs.Prelude.{ℕ, ◌≡◌, ◌+◌, ◌*◌, ◌≤◌, ◌<◌, List, [], ◌∷◌, ◌++◌, length, slice_get, slice_set}
+use Rattle.std.specs.Prelude.{Option, Some, None}
 use Rattle.std.specs.declared.ops.ControlFlow.{ControlFlow}
 use Rattle.std.specs.declared.ops.ControlFlow.TheVariants.{Continue, Break}
 use Rattle.pq_words.specs.declared.entries.Entry.{Entry}
@@ -31,7 +32,8 @@ IsFound m None = Unit {0}
 IsFound m (Some found) = m.is_feasible found.plan × (found.cost ≡ m.cost_of found.plan)
 
 -- Two of the pass's calls have been made for each node that was put and taken again, and one for each that is held.
-pub record IsUnderway {N P : Type 0} (m : Meaning N P) (nodes capacity : ℕ) (search : Search N P) (waiting : List (List ℕ)) : Type 0 where
+pub record IsUnderway {N P : Type 0} (m : Meaning N P) (nodes capacity : ℕ) (search : Search N P)
+    (waiting : List (List ℕ)) : Type 0 where
   pub lawful : IsLawful m
   pub names : List (List ℕ)
   pub searching : IsSearching m capacity names (held search.pass) search.store waiting (cost_so_far search.best)
@@ -57,7 +59,8 @@ pub record IsPut {N P : Type 0} (before : Search N P) (child : Child N) (now : S
 
 -- why a child was not put: the queue was full, at this place
 abbrev pub IsNotPut : {N P : Type 0} → Search N P → Stop → Type 0
-IsNotPut before (Full place) = (length (held before.pass) ≡ before.pass.capacity) × (place ≡ length before.pass.known.calls)
+IsNotPut before (Full place) =
+    (length (held before.pass) ≡ before.pass.capacity) × (place ≡ length before.pass.known.calls)
 IsNotPut before NoMemory = Unit {0}
 IsNotPut before (NodeLimit asked) = ⊥
 
@@ -81,7 +84,8 @@ pub record IsTaken {N P : Type 0} (before : Search N P) (child : Child N) (now :
 -- No entry was left whose key is below the best cost.
 pub record IsSpent {N P : Type 0} (before now : Search N P) : Type 0 where
   pub same : held now.pass ≡ held before.pass
-  pub ended : before.pass.known.number ≡ 1 → EndsAt before.pass.capacity (limit_of (cost_so_far before.best)) now.pass.known
+  pub ended : before.pass.known.number ≡ 1
+      → EndsAt before.pass.capacity (limit_of (cost_so_far before.best)) now.pass.known
   pub best : now.best ≡ before.best
 
 -- the best plan so far is one of least cost, and the limits were obeyed
@@ -90,7 +94,8 @@ IsOver m nodes capacity None known = ⊥
 IsOver m nodes capacity (Some found) known = IsBest m nodes capacity found.plan found.cost known
 
 -- After a turn the search is underway and has made one more call at least, or it is over.
-abbrev pub IsTurn : {N P : Type 0} → Meaning N P → ℕ → ℕ → Search N P → ControlFlow (Unit {0}) (Unit {0}) → Search N P → Type 0
+abbrev pub IsTurn : {N P : Type 0} → Meaning N P → ℕ → ℕ → Search N P → ControlFlow (Unit {0}) (Unit {0})
+    → Search N P → Type 0
 IsTurn m nodes capacity before (Continue _) now =
     IsUnderway m nodes capacity now [] × (length before.pass.known.calls + 1 ≤ length now.pass.known.calls)
 IsTurn m nodes capacity before (Break _) now = IsOver m nodes capacity now.best now.pass.known

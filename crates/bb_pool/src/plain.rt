@@ -109,7 +109,8 @@ fn take_turn<P: Problem>(
 ) -> Result<ControlFlow<()>, Stop>
     requires nodes { nodes ≤ max_nodes }
     requires underway { IsUnderway (P.meaning problem.now) nodes search.old.pass.capacity search.old [] }
-    ensures turn { IfOk result (λ flow. IsTurn (P.meaning problem.now) nodes search.old.pass.capacity search.old flow search.new) }
+    ensures turn { IfOk result (λ flow.
+        IsTurn (P.meaning problem.now) nodes search.old.pass.capacity search.old flow search.new) }
     ensures stops { IfErr result (IsStop (P.meaning problem.now) nodes search.old.pass.capacity) }
 {
     left_rises();
@@ -139,7 +140,8 @@ fn branch<P: Problem>(
     requires underway { (waiting : List (List ℕ)) × StandAt (P.meaning problem.now).stands children.items waiting
         × IsUnderway (P.meaning problem.now) nodes search.old.pass.capacity search.old waiting }
     ensures calls { IfOk result (λ _. length search.old.pass.known.calls ≤ length search.new.pass.known.calls) }
-    ensures underway { IfOk result (λ _. IsUnderway (P.meaning problem.now) nodes search.old.pass.capacity search.new []) }
+    ensures underway { IfOk result (λ _.
+        IsUnderway (P.meaning problem.now) nodes search.old.pass.capacity search.new []) }
     ensures stops { IfErr result (IsStop (P.meaning problem.now) nodes search.old.pass.capacity) }
 {
     let best = search.best_cost();

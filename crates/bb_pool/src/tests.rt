@@ -1,12 +1,15 @@
 //! Tests of the search on a small problem.
 
 ghost use Rattle.std.specs.Prelude.{◌≤◌};
+ghost use Rattle.pq_model.specs.Limits.{max_capacity};
+ghost use Rattle.bb_pool.specs.Limits.{max_nodes};
 ghost use Rattle.bb_pool.specs.Picks.{meaning, lawful};
 
 use super::*;
 use bb_problem::{Problem, Step};
 use pq_api::{Open, PlainPass, PlainQueue, SharedQueue};
 use pq_io::NoMemory;
+use pq_model::MAX_CAPACITY;
 use std::alloc::Global;
 use std::test::Fail;
 
@@ -47,24 +50,37 @@ impl Problem for Picks {
 }
 
 // How a search on a fresh queue of this capacity ends, under this node limit.
-fn searched(alloc: Global, capacity: u32, nodes: u32) -> Result<Outcome<u8>, NoMemory>
-    requires capacity { (1 ≤ capacity) × (capacity ≤ 1048576) }
-    requires nodes { (1 ≤ nodes) × (nodes ≤ 1048560) }
+fn searched(alloc: Global, capacity: u32, nodes: u32) -> Result<String, NoMemory>
+    requires capacity { (1 ≤ capacity) × (capacity ≤ max_capacity) }
+    requires nodes { (1 ≤ nodes) × (nodes ≤ max_nodes) }
 {
     let (_queue, mut passes) = PlainQueue::open(alloc, capacity, 1, Open)?;
-    match passes.pop() {
-        Some(pass) => Ok(search_plain(alloc, &Picks, pass, nodes)),
-        None => Ok(Outcome::NoMemory),
-    }
+    let outcome = match passes.pop() {
+        Some(pass) => search_plain(alloc, &Picks, pass, nodes),
+        None => Outcome::NoMemory,
+    };
+    Ok(format!(in alloc; "{outcome:?}")?)
 }
 
+const BEST: &str = "Best { plan: 9, cost: 4 }";
+
+// The root and its three leaves are four nodes, and the three leaves are open at once.
 #[test]
-fn ends_as_said(rt: HostRuntime) -> Result<(), Fail> {
-    let best = searched(rt.alloc(), 3, 4)?;
-    assert!(rt; matches!(best, Outcome::Best { plan: 9, cost: 4 }));
-    let limited = searched(rt.alloc(), 4, 3)?;
-    assert!(rt; matches!(limited, Outcome::NodeLimit { asked: 4, limit: 3 }));
-    let full = searched(rt.alloc(), 2, 4)?;
-    assert!(rt; matches!(full, Outcome::Full { place: 4 }));
+fn ends_as_said_on_both_sides_of_each_limit(rt: HostRuntime) -> Result<(), Fail> {
+    assert_eq!(rt; searched(rt.alloc(), 3, 4)?.as_str(), BEST);
+    assert_eq!(rt;
+        searched(rt.alloc(), MAX_CAPACITY, MAX_NODES)?.as_str(),
+        BEST
+    );
+    assert_eq!(rt;
+        searched(rt.alloc(), 4, 3)?.as_str(),
+        "NodeLimit { asked: 4, limit: 3 }"
+    );
+    assert_eq!(rt;
+        searched(rt.alloc(), 1, 1)?.as_str(),
+        "NodeLimit { asked: 4, limit: 1 }"
+    );
+    assert_eq!(rt; searched(rt.alloc(), 2, 4)?.as_str(), "Full { place: 4 }");
+    assert_eq!(rt; searched(rt.alloc(), 1, 4)?.as_str(), "Full { place: 3 }");
     Ok(())
 }
