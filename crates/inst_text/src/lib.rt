@@ -10,6 +10,7 @@ mod script;
 mod shop;
 #[cfg(test)]
 mod tests;
+mod whole;
 
 pub use knapsack::{
     Choice, Item, Items, knapsack_texts_are_read, next_knapsack, read_knapsack, write_choice,
@@ -30,3 +31,4 @@ pub use shop::{
     Jobs, Operation, Starts, next_shop, read_shop, shop_texts_are_read, write_shop, write_starts,
     written_shops_are_read,
 };
+pub use whole::{FromText, read_whole};

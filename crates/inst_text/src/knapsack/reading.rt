@@ -8,6 +8,7 @@ ghost use Rattle.inst_text.specs.Knapsack.{knapsack_of};
 
 use crate::knapsack::{Item, Items};
 use crate::limits::{CAPACITY_LIMIT, ITEM_LIMIT, TOTAL_LIMIT, WEIGHT_LIMIT};
+use crate::whole::{FromText, read_whole};
 use pq_io::{BadInput, Cause, ReadRefusal, TextReader, WordReader, on_line};
 use std::alloc::Global;
 
@@ -93,6 +94,7 @@ pub fn next_knapsack(alloc: Global, text: &mut TextReader<'_>) -> Result<Items, 
 /// n is 0 to 1,024, W is 0 to 1,000,000,000,000, a weight is 0 to 1,000,000,000, a value is 0 to 67,108,863,
 /// and so is the sum of the values. A text that is no such instance is refused with its first fault: the
 /// number of the line, and the cause. Linear in the text, which is not copied; the items are reserved once.
+#[tactic(auto, unfolding(crate::specs::Knapsack::knapsack_of))]
 pub fn read_knapsack(alloc: Global, bytes: &[u8]) -> Result<Items, ReadRefusal>
     // Which instance, and which fault it is.
     ensures exact { Gives (λ i. i) result (knapsack_of bytes.now) }
@@ -101,16 +103,13 @@ pub fn read_knapsack(alloc: Global, bytes: &[u8]) -> Result<Items, ReadRefusal>
     // What is spelled so is read, unless memory runs out.
     ensures read { (i : Instance) → IsKnapsackText bytes.now i → Gives (λ j. j) result (Ok i) }
 {
-    whole_knapsack(alloc, bytes)
+    read_whole::<Items>(alloc, bytes)
 }
 
-// What `read_knapsack` gives, read off its definition.
-#[tactic(auto, unfolding(crate::specs::Knapsack::knapsack_of, crate::specs::Several::whole))]
-fn whole_knapsack(alloc: Global, bytes: &[u8]) -> Result<Items, ReadRefusal>
-    ensures { Gives (λ i. i) result (knapsack_of bytes.now) }
-{
-    let mut text = TextReader::open(bytes)?;
-    let items = next_knapsack(alloc, &mut text)?;
-    text.finish()?;
-    Ok(items)
+impl FromText for Items {
+    ghost reading = { instance_at };
+
+    fn next(alloc: Global, text: &mut TextReader<'_>) -> Result<Items, ReadRefusal> {
+        next_knapsack(alloc, text)
+    }
 }

@@ -1,16 +1,18 @@
 //! Reading a choice behind its knapsack.
 
-ghost use Rattle.std.specs.Prelude.{◌≡◌, ◌≤◌, IfOk, Ok, List, ℕ};
+ghost use Rattle.std.specs.Prelude.{◌≡◌, ◌≤◌, IfOk, Ok, List, ℕ, length};
 ghost use Rattle.pq_io.specs.Reading.{Leaves, Gives, GivesAndLeaves, on_line, line_at};
 ghost use Rattle.inst_text.specs.declared.plan.Claimed.{Claimed};
 ghost use Rattle.inst_text.specs.Limits.{item_limit};
-ghost use Rattle.inst_text.specs.Knapsack.{Instance};
+ghost use Rattle.inst_text.specs.Several.{both};
+ghost use Rattle.inst_text.specs.Knapsack.{Instance, instance_at};
 ghost use Rattle.inst_text.specs.Plans.{item_number_of, item_number_at, item_numbers_of, choice_of, choice_at};
 ghost use Rattle.inst_text.specs.Plans.{IsKnapsackPlanText, knapsack_plan_of};
 
 use crate::knapsack::{Choice, Items, next_knapsack};
 use crate::plan::Claimed;
 use crate::plan::stated::next_stated;
+use crate::whole::{FromText, read_whole};
 use pq_io::{BadInput, Cause, ReadRefusal, TextReader, WordReader, digits, on_line};
 use std::alloc::Global;
 
@@ -102,6 +104,7 @@ pub fn next_choice(
 /// V is 0 to 4,294,967,295. An item number is below the number of items and above the one before it; else it is
 /// out of range. A text that is no such plan is refused with its first fault: the number of the line, and the
 /// cause. Linear in the text, which is not copied.
+#[tactic(auto, unfolding(crate::specs::Plans::knapsack_plan_of))]
 pub fn read_plan_knapsack(
     alloc: Global,
     bytes: &[u8],
@@ -114,18 +117,20 @@ pub fn read_plan_knapsack(
     ensures read { (i : Instance) (c : Claimed (List ℕ)) → IsKnapsackPlanText bytes.now i c
         → Gives (λ r. r) result (Ok (i, c)) }
 {
-    whole_plan(alloc, bytes)
+    read_whole::<(Items, Claimed<Choice>)>(alloc, bytes)
 }
 
-// What `read_plan_knapsack` gives, read off its definition.
-#[tactic(auto, unfolding(crate::specs::Plans::knapsack_plan_of, crate::specs::Several::whole, crate::specs::Several::both))]
-fn whole_plan(alloc: Global, bytes: &[u8]) -> Result<(Items, Claimed<Choice>), ReadRefusal>
-    ensures { Gives (λ r. r) result (knapsack_plan_of bytes.now) }
-{
-    let mut text = TextReader::open(bytes)?;
-    let items = next_knapsack(alloc, &mut text)?;
-    let count = items.items.len() as u64;
-    let choice = next_choice(alloc, &mut text, count)?;
-    text.finish()?;
-    Ok((items, choice))
+impl FromText for (Items, Claimed<Choice>) {
+    ghost reading = { both instance_at (λ i. choice_at (length i.items)) };
+
+    #[tactic(auto, unfolding(crate::specs::Several::both))]
+    fn next(
+        alloc: Global,
+        text: &mut TextReader<'_>,
+    ) -> Result<(Items, Claimed<Choice>), ReadRefusal> {
+        let items = next_knapsack(alloc, text)?;
+        let count = items.items.len() as u64;
+        let choice = next_choice(alloc, text, count)?;
+        Ok((items, choice))
+    }
 }

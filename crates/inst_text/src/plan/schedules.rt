@@ -1,10 +1,11 @@
 //! Reading start times behind their shop.
 
-ghost use Rattle.std.specs.Prelude.{◌≡◌, map, IfOk, Ok, List, ℕ};
+ghost use Rattle.std.specs.Prelude.{◌≡◌, map, IfOk, Ok, List, ℕ, length};
 ghost use Rattle.pq_io.specs.Reading.{Leaves, Gives, GivesAndLeaves, number_at, on_line, line_at};
 ghost use Rattle.inst_text.specs.declared.plan.Claimed.{Claimed};
 ghost use Rattle.inst_text.specs.Limits.{total_limit};
-ghost use Rattle.inst_text.specs.Shop.{JobShop};
+ghost use Rattle.inst_text.specs.Several.{both};
+ghost use Rattle.inst_text.specs.Shop.{JobShop, shop_at};
 ghost use Rattle.inst_text.specs.Plans.{line_starts_on, start_row_of, start_rows_at, starts_at};
 ghost use Rattle.inst_text.specs.Plans.{IsShopPlanText, shop_plan_of};
 
@@ -12,6 +13,7 @@ use crate::limits::TOTAL_LIMIT;
 use crate::plan::Claimed;
 use crate::plan::stated::next_stated;
 use crate::shop::{Jobs, Starts, next_shop};
+use crate::whole::{FromText, read_whole};
 use pq_io::{BadInput, ReadRefusal, TextReader, WordReader, on_line};
 use std::alloc::Global;
 
@@ -102,6 +104,7 @@ fn next_starts(
 /// C is 0 to 4,294,967,295, and a start time is 0 to 67,108,863; else it is out of range. A text that is no such
 /// plan is refused with its first fault: the number of the line, and the cause. Linear in the text, which is not
 /// copied; each row is reserved once.
+#[tactic(auto, unfolding(crate::specs::Plans::shop_plan_of))]
 pub fn read_plan_shop(alloc: Global, bytes: &[u8]) -> Result<(Jobs, Claimed<Starts>), ReadRefusal>
     // Which shop and which start times, and which fault it is.
     ensures exact { Gives (λ r. r) result (shop_plan_of bytes.now) }
@@ -111,18 +114,20 @@ pub fn read_plan_shop(alloc: Global, bytes: &[u8]) -> Result<(Jobs, Claimed<Star
     ensures read { (s : JobShop) (c : Claimed (List (List ℕ))) → IsShopPlanText bytes.now s c
         → Gives (λ r. r) result (Ok (s, c)) }
 {
-    whole_plan(alloc, bytes)
+    read_whole::<(Jobs, Claimed<Starts>)>(alloc, bytes)
 }
 
-// What `read_plan_shop` gives, read off its definition.
-#[tactic(auto, unfolding(crate::specs::Plans::shop_plan_of, crate::specs::Several::whole, crate::specs::Several::both))]
-fn whole_plan(alloc: Global, bytes: &[u8]) -> Result<(Jobs, Claimed<Starts>), ReadRefusal>
-    ensures { Gives (λ r. r) result (shop_plan_of bytes.now) }
-{
-    let mut text = TextReader::open(bytes)?;
-    let shop = next_shop(alloc, &mut text)?;
-    let jobs = shop.rows.len() as u64;
-    let starts = next_starts(alloc, &mut text, jobs, u64::from(shop.machines))?;
-    text.finish()?;
-    Ok((shop, starts))
+impl FromText for (Jobs, Claimed<Starts>) {
+    ghost reading = { both shop_at (λ s. starts_at (length s.rows) s.machines) };
+
+    #[tactic(auto, unfolding(crate::specs::Several::both))]
+    fn next(
+        alloc: Global,
+        text: &mut TextReader<'_>,
+    ) -> Result<(Jobs, Claimed<Starts>), ReadRefusal> {
+        let shop = next_shop(alloc, text)?;
+        let jobs = shop.rows.len() as u64;
+        let starts = next_starts(alloc, text, jobs, u64::from(shop.machines))?;
+        Ok((shop, starts))
+    }
 }

@@ -8,6 +8,7 @@ ghost use Rattle.inst_text.specs.Shop.{line_operations_at, row_of, rows_at, shop
 
 use crate::limits::{JOB_LIMIT, MACHINE_LIMIT, OPERATION_LIMIT, TOTAL_LIMIT};
 use crate::shop::{Jobs, Operation};
+use crate::whole::{FromText, read_whole};
 use pq_io::{BadInput, Cause, ReadRefusal, TextReader, WordReader, on_line};
 use std::alloc::Global;
 
@@ -153,6 +154,7 @@ pub fn next_shop(alloc: Global, text: &mut TextReader<'_>) -> Result<Jobs, ReadR
 /// m - 1, a time is 0 to 67,108,863, and so is the sum of all times; the time that passes it is out of range. A
 /// text that is no such shop is refused with its first fault: the number of the line, and the cause. Linear in
 /// the text, which is not copied; each row is reserved once.
+#[tactic(auto, unfolding(crate::specs::Shop::shop_of))]
 pub fn read_shop(alloc: Global, bytes: &[u8]) -> Result<Jobs, ReadRefusal>
     // Which shop, and which fault it is.
     ensures exact { Gives (λ s. s) result (shop_of bytes.now) }
@@ -161,16 +163,13 @@ pub fn read_shop(alloc: Global, bytes: &[u8]) -> Result<Jobs, ReadRefusal>
     // What is spelled so is read, unless memory runs out.
     ensures read { (s : JobShop) → IsShopText bytes.now s → Gives (λ j. j) result (Ok s) }
 {
-    whole_shop(alloc, bytes)
+    read_whole::<Jobs>(alloc, bytes)
 }
 
-// What `read_shop` gives, read off its definition.
-#[tactic(auto, unfolding(crate::specs::Shop::shop_of, crate::specs::Several::whole))]
-fn whole_shop(alloc: Global, bytes: &[u8]) -> Result<Jobs, ReadRefusal>
-    ensures { Gives (λ s. s) result (shop_of bytes.now) }
-{
-    let mut text = TextReader::open(bytes)?;
-    let shop = next_shop(alloc, &mut text)?;
-    text.finish()?;
-    Ok(shop)
+impl FromText for Jobs {
+    ghost reading = { shop_at };
+
+    fn next(alloc: Global, text: &mut TextReader<'_>) -> Result<Jobs, ReadRefusal> {
+        next_shop(alloc, text)
+    }
 }

@@ -6,7 +6,9 @@ use Rattle.inst_text.proofs.KnapsackText.{knapsack_is_spelled, knapsack_is_read}
 use Rattle.inst_text.proofs.knapsack.reading.read_knapsack.Goals as goal
 
 pub returns-clause-spelled : goal.returns-clause-spelled
-returns-clause-spelled c = given_is (knapsack_of c.args.bytes.now) (IsKnapsackText c.args.bytes.now) (knapsack_is_spelled c.args.bytes.now) c.whole_knapsack.result c.whole_knapsack.ensures
+unfolding knapsack_of
+returns-clause-spelled c = given_is (knapsack_of c.args.bytes.now) (IsKnapsackText c.args.bytes.now) (knapsack_is_spelled c.args.bytes.now) c.read_whole.result c.read_whole.ensures
 
 pub returns-clause-read : goal.returns-clause-read
-returns-clause-read c = λ i is. subst (λ r. Gives (λ j. j) c.whole_knapsack.result r) (knapsack_is_read c.args.bytes.now i is) c.whole_knapsack.ensures
+unfolding knapsack_of
+returns-clause-read c = λ i is. subst (λ r. Gives (λ j. j) c.read_whole.result r) (knapsack_is_read c.args.bytes.now i is) c.read_whole.ensures
