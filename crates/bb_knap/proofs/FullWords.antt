@@ -1,8 +1,8 @@
 -- The words that are in use.
 use Rattle.std.proofs.Common.{◌≡◌, ℕ, ◌+◌, ◌<◌, ◌≤◌, [], ◌∷◌, ◌++◌, refl, sym, length, take, get_or, arith}
 use Rattle.std.proofs.lemmas.List.{length-take-le, get_or-take}
-use Rattle.bb_knap.specs.declared.decisions.FullWords.{FullWords}
-use Rattle.bb_knap.specs.declared.decisions.FullWords.TheVariants.{Zero, One, More}
+use Rattle.bb_knap.specs.declared.full_words.FullWords.{FullWords}
+use Rattle.bb_knap.specs.declared.full_words.FullWords.TheVariants.{Zero, One, More}
 use Rattle.bb_knap.specs.Decisions.{words_of, IsFullWords}
 
 pub in_use-le : (n : ℕ) (full : FullWords) → IsFullWords n full → n ≤ length (words_of full)

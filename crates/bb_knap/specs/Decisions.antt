@@ -1,8 +1,9 @@
 -- Decisions kept as the bits of words.
-use Rattle.std.specs.Prelude.{ℕ, zero, suc, ◌≡◌, ◌≤◌, ◌/◌, ◌%◌, List, [], ◌∷◌, ◌++◌, length}
+use Rattle.std.specs.Prelude.{ℕ, zero, suc, ◌≡◌, ◌<◌, ◌≤◌, ◌/◌, ◌%◌, ◌^◌}
+use Rattle.std.specs.Prelude.{List, [], ◌∷◌, ◌++◌, length, take}
 use Rattle.inst_text.specs.Limits.{item_limit}
-use Rattle.bb_knap.specs.declared.decisions.FullWords.{FullWords}
-use Rattle.bb_knap.specs.declared.decisions.FullWords.TheVariants.{Zero, One, More}
+use Rattle.bb_knap.specs.declared.full_words.FullWords.{FullWords}
+use Rattle.bb_knap.specs.declared.full_words.FullWords.TheVariants.{Zero, One, More}
 
 -- how many words hold a decision on each item
 abbrev pub word_limit : ℕ
@@ -29,3 +30,13 @@ abbrev pub IsFullWords : ℕ → FullWords → Type 0
 IsFullWords n Zero = n ≡ 0
 IsFullWords n (One word) = n ≡ 1
 IsFullWords n (More words) = (2 ≤ n) × (n ≤ word_limit) × (length words.value ≡ word_limit)
+
+-- the decisions that these words keep, the last one in part
+abbrev pub decisions_in : FullWords → ℕ → ℕ → List ℕ
+decisions_in full last count = all_bits (take (count / 64) (words_of full)) ++ word_bits (count % 64) last
+
+-- the words keep so many decisions
+pub record AreDecisions (words : FullWords) (part count : ℕ) : Type 0 where
+  pub full : IsFullWords (count / 64) words
+  pub last : part < 2 ^ (count % 64)
+  pub few : count ≤ item_limit

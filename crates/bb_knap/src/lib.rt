@@ -3,7 +3,7 @@
 #![tactic(auto)]
 
 mod dantzig;
-mod decisions;
+mod full_words;
 mod knapsack;
 mod laws;
 mod node;

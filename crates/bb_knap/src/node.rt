@@ -1,10 +1,11 @@
 //! A node of the tree of decisions.
 
-ghost use Rattle.std.specs.Prelude.{◌≡◌, ◌+◌, ◌-◌, ◌<◌, ◌≤◌, ◌^◌, [], ◌∷◌, ◌++◌, length, min, IfOk};
+ghost use Rattle.std.specs.Prelude.{◌≡◌, ◌+◌, ◌-◌, ◌/◌, ◌%◌, ◌<◌, ◌≤◌, ◌^◌, nat_lt, [], ◌∷◌, ◌++◌};
+ghost use Rattle.std.specs.Prelude.{length, slice_index, min, if◌then◌else◌, IfOk};
 ghost use Rattle.inst_text.specs.Limits.{item_limit, capacity_limit};
 ghost use Rattle.bb_knap.specs.Branching.{Node};
 
-use crate::decisions::Decisions;
+use crate::full_words::FullWords;
 use inst_text::Item;
 use pq_io::NoMemory;
 use std::alloc::Global;
@@ -12,10 +13,14 @@ use std::marker::Model;
 
 /// A node of the search: decisions on the first items of the order, the room that the taken items leave, and
 /// their value.
+///
+/// The decisions are bits, 64 to a word, an earlier one in a higher bit. Up to 127 of them take no memory of the heap.
 #[derive(Debug, Drop)]
 pub struct KnapNode {
-    decisions: Decisions,
+    full: FullWords,
+    last: u64,
     room: u64,
+    count: u32,
     value: u32,
 }
 
@@ -23,12 +28,13 @@ impl Model for KnapNode {
     ghost use Rattle.std.specs.Prelude.{◌≤◌};
     ghost use Rattle.inst_text.specs.Limits.{capacity_limit};
     ghost use Rattle.bb_knap.specs.Branching.{Node};
+    ghost use Rattle.bb_knap.specs.Decisions.{decisions_in, AreDecisions};
 
     ghost Value = { Node };
 
-    ghost view = { λ n. record { decisions = n.decisions; room = n.room; value = n.value } };
+    ghost view = { λ n. record { decisions = decisions_in n.full n.last n.count; room = n.room; value = n.value } };
 
-    ghost invariant = { λ n. n.room ≤ capacity_limit };
+    ghost invariant = { λ n. AreDecisions n.full n.last n.count × (n.room ≤ capacity_limit) };
 }
 
 impl KnapNode {
@@ -38,17 +44,32 @@ impl KnapNode {
         ensures { result ≡ record { decisions = []; room = room; value = 0 } }
     {
         KnapNode {
-            decisions: Decisions::none(),
+            full: FullWords::Zero,
+            last: 0,
             room,
+            count: 0,
             value: 0,
         }
     }
 
-    /// The decisions. Constant time.
-    pub(crate) fn decisions(&self) -> &Decisions
-        ensures { result.now ≡ self.now.decisions }
+    /// How many items are decided, at most 1,024. Constant time.
+    pub(crate) fn depth(&self) -> usize
+        ensures depth { result ≡ length self.now.decisions }
+        ensures few { result ≤ item_limit }
     {
-        &self.decisions
+        self.count as usize
+    }
+
+    /// Tells whether the decision at this place is to take the item. Constant time.
+    pub(crate) fn takes(&self, place: usize) -> bool
+        requires { place < length self.now.decisions }
+        ensures { result ≡ nat_lt 0 (slice_index self.now.decisions place) }
+    {
+        let count = self.count as usize;
+        if place / 64 < count / 64 {
+            return is_set(self.full.word(place / 64), 63 - place % 64);
+        }
+        is_set(self.last, count % 64 - 1 - place % 64)
     }
 
     /// The room that is left, at most 1,000,000,000,000. Constant time.
@@ -76,11 +97,14 @@ impl KnapNode {
           value = min (self.now.value + item.value) (2 ^ 32 - 1);
         }) }
     {
-        Ok(KnapNode {
-            decisions: self.decisions.copied(alloc)?.with(alloc, true)?,
+        let node = KnapNode {
+            full: self.full.copied(alloc)?,
+            last: self.last,
             room: self.room - u64::from(item.weight),
+            count: self.count,
             value: self.value.saturating_add(item.value),
-        })
+        };
+        node.deciding(alloc, true)
     }
 
     /// The child that leaves the next item. Constant time; up to 127 decisions it takes no memory.
@@ -88,15 +112,46 @@ impl KnapNode {
         requires { length self.decisions < item_limit }
         ensures { IfOk result (λ child. child ≡ record self { decisions = self.decisions ++ 0 ∷ [] }) }
     {
+        self.deciding(alloc, false)
+    }
+
+    // The same node with one decision more.
+    fn deciding(self, alloc: Global, taken: bool) -> Result<KnapNode, NoMemory>
+        requires { length self.decisions < item_limit }
+        ensures { IfOk result (λ child. child ≡
+            record self { decisions = self.decisions ++ (if taken then 1 else 0) ∷ [] }) }
+    {
         let KnapNode {
-            decisions,
+            full,
+            last,
             room,
+            count,
             value,
         } = self;
+        let word = last * 2 + u64::from(taken);
+        if count % 64 < 63 {
+            return Ok(KnapNode {
+                full,
+                last: word,
+                room,
+                count: count + 1,
+                value,
+            });
+        }
         Ok(KnapNode {
-            decisions: decisions.with(alloc, false)?,
+            full: full.with(alloc, count as usize / 64, word)?,
+            last: 0,
             room,
+            count: count + 1,
             value,
         })
     }
+}
+
+// Tells whether this bit of the word is 1.
+fn is_set(word: u64, bit: usize) -> bool
+    requires { bit < 64 }
+    ensures { result ≡ nat_lt 0 (word / 2 ^ bit % 2) }
+{
+    0 < (word >> bit) % 2
 }

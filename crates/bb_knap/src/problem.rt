@@ -34,7 +34,7 @@ impl Problem for Knapsack {
 
     /// The sum of all values, but those of the taken items and Dantzig's bound of the rest. O(log n).
     fn bound(&self, node: &KnapNode) -> u32 {
-        let depth = node.decisions().len().min(self.items().len());
+        let depth = node.depth().min(self.items().len());
         self.bound_at(depth, node.room(), node.value())
     }
 
@@ -50,16 +50,16 @@ impl Problem for Knapsack {
     {
         let items = self.items();
         let order = self.order();
-        let depth = node.decisions().len();
+        let depth = node.depth();
         if order.len() <= depth {
-            return Ok(Step::Leaf(plan(alloc, self, node.decisions())?));
+            return Ok(Step::Leaf(plan(alloc, self, &node)?));
         }
         let item = numbered_item(items, order[depth]);
-        let mut children = Vec::new(alloc);
+        let mut children = Vec::with_capacity(alloc, 2)?;
         if u64::from(item.weight) <= node.room() {
-            children.push(node.taking(alloc, item)?)?;
+            children.push_reserved(node.taking(alloc, item)?);
         }
-        children.push(node.leaving(alloc)?)?;
+        children.push_reserved(node.leaving(alloc)?);
         Ok(Step::Branch(children))
     }
 

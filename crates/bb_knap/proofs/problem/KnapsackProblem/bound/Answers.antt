@@ -7,7 +7,7 @@ pub returns-clause-exact : goal.returns-clause-exact
 unfolding bound_of
 returns-clause-exact c = λ name s.
     let i = c.args.self.now in
-    let depth : c.min-depth.result ≡ length name = omega (arith, c.min-depth.ensures, c.len.ensures.len, ap length c.decisions.ensures, ap length s.decisions, s.depth, ap length c.items.ensures.items) in
+    let depth : c.min-depth.result ≡ length name = omega (arith, c.min-depth.ensures, c.depth.ensures.depth, ap length s.decisions, s.depth, ap length c.items.ensures.items) in
     let room : c.room.result ≡ room_of i name = omega (arith, c.room.ensures.room, s.room) in
     let rest : dantzig i.items c.room.result (drop c.min-depth.result (order_of i.items)) ≡ dantzig i.items (room_of i name) (rest_of i name) =
     ap (λ r. dantzig i.items r (drop c.min-depth.result (order_of i.items))) room
