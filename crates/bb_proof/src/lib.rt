@@ -5,6 +5,8 @@ mod laws;
 mod made;
 mod proof;
 mod proving;
+#[cfg(test)]
+mod tests;
 mod text;
 mod verdict;
 mod verifying;
