@@ -4,9 +4,11 @@ use Rattle.std.specs.Prelude.{Ok, Err, is_none, unwrap_or, String, string_bytes}
 use Rattle.std.specs.Str.{bytes_eq}
 use Rattle.std.specs.declared.alloc.Global.{Global}
 use Rattle.pq_io.specs.Reading.{is_between}
+use Rattle.pq_model.specs.Limits.{max_capacity}
+use Rattle.bb_pool.specs.Limits.{max_nodes}
 use Rattle.pq_cli.specs.declared.command.Kind.{Kind}
 use Rattle.pq_cli.specs.declared.command.Command.{Command}
-use Rattle.pq_cli.specs.declared.command.Command.TheVariants.{Solve, Bound, Check, Audit}
+use Rattle.pq_cli.specs.declared.command.Command.TheVariants.{Solve, Bound, Check, Trace, Audit}
 use Rattle.pq_cli.specs.declared.commands.task.Task.{Task}
 use Rattle.pq_cli.specs.declared.commands.task.Task.TheVariants as tasks
 use Rattle.pq_cli.specs.declared.words.reading.WordsRefusal.{WordsRefusal}
@@ -22,15 +24,19 @@ texts words = map (λ w. string_bytes w) words
 abbrev pub within : ℕ → ℕ → ℕ → Option ℕ
 within low high n = if is_between low high n then Some n else None
 
--- A problem and a queue; one worker, 1 to 1,048,560 nodes and a capacity of at least the workers and at most
--- 1,048,576. Where they are not said, there are 100,000 nodes, and the capacity is the nodes and the workers.
+-- how many nodes a search may make where it is not said
+abbrev pub default_nodes : ℕ
+default_nodes = 100000
+
+-- A problem and a queue; one worker, one node at least, and a capacity of at least the workers. Where it is not said,
+-- the capacity is the nodes and the workers.
 unfoldable pub solve_from : Settings → Option Command
 solve_from said = do
   kind ← said.kind
   queue ← said.queue
   workers ← within 1 1 (unwrap_or said.workers 1)
-  nodes ← within 1 1048560 (unwrap_or said.nodes 100000)
-  capacity ← within workers 1048576 (unwrap_or said.capacity (nodes + workers))
+  nodes ← within 1 max_nodes (unwrap_or said.nodes default_nodes)
+  capacity ← within workers max_capacity (unwrap_or said.capacity (nodes + workers))
   Some (Solve kind queue workers nodes capacity)
 
 -- a problem, and no option
@@ -49,6 +55,17 @@ check_from said = do
   kind ← kind_alone said
   Some (Check kind)
 
+-- how many entries a traced queue takes where it is not said
+abbrev pub default_capacity : ℕ
+default_capacity = 1024
+
+-- a queue and a capacity
+unfoldable pub trace_from : Settings → Option Command
+trace_from said = do
+  queue ← said.queue
+  capacity ← within 1 max_capacity (unwrap_or said.capacity default_capacity)
+  if is_none said.kind && (is_none said.workers && is_none said.nodes) then Some (Trace queue capacity) else None
+
 -- nothing
 unfoldable pub audit_from : Settings → Option Command
 audit_from said = if is_none said.kind && is_silent said then Some Audit else None
@@ -63,6 +80,7 @@ command_of (name ∷ words) =
     if bytes_eq name (codes "solve") then settings_from nothing words >>= solve_from
     else if bytes_eq name (codes "bound") then settings_from nothing words >>= bound_from
     else if bytes_eq name (codes "check") then settings_from nothing words >>= check_from
+    else if bytes_eq name (codes "trace") then settings_from nothing words >>= trace_from
     else if bytes_eq name (codes "audit") then settings_from nothing words >>= audit_from
     else None
 
@@ -73,8 +91,8 @@ answer_of None = Err BadWords
 
 -- the numbers that a search may have
 pub record AreLimits (n c : ℕ) : Type 0 where
-  pub nodes : (1 ≤ n) × (n ≤ 1048560)
-  pub capacity : (1 ≤ c) × (c ≤ 1048576)
+  pub nodes : (1 ≤ n) × (n ≤ max_nodes)
+  pub capacity : (1 ≤ c) × (c ≤ max_capacity)
 
 -- the same of what is to be done with a problem
 abbrev pub HasTaskLimits : Task → Type 0
@@ -86,4 +104,5 @@ abbrev pub HasLimits : Command → Type 0
 HasLimits (Solve kind queue workers nodes capacity) = AreLimits nodes capacity
 HasLimits (Bound kind) = Unit {0}
 HasLimits (Check kind) = Unit {0}
+HasLimits (Trace queue capacity) = (1 ≤ capacity) × (capacity ≤ max_capacity)
 HasLimits Audit = Unit {0}

@@ -2,6 +2,7 @@
 use Rattle.std.specs.Prelude.{ℕ, ◌≡◌, ◌≤◌, List, Result, Ok, Err, Some, None}
 use Rattle.pq_io.specs.declared.text.fault.BadInput.{BadInput}
 use Rattle.pq_tape.specs.HistoryReading.{history_of}
+use Rattle.inst_text.specs.Script.{script_of}
 use Rattle.bb_problem.specs.Meaning.{Meaning}
 use Rattle.bb_problem.specs.Tree.{needed}
 use Rattle.pq_cli.specs.declared.command.Command.{Command}
@@ -11,6 +12,7 @@ use Rattle.pq_cli.specs.declared.commands.task.Task.TheVariants.{Solve, Bound, C
 use Rattle.pq_cli.specs.declared.status.Status.{Status}
 use Rattle.pq_cli.specs.declared.status.Status.TheVariants as statuses
 use Rattle.pq_cli.specs.Auditing.{IsAudited}
+use Rattle.pq_cli.specs.Tracing.{IsTraced}
 use Rattle.pq_cli.specs.Using.{Texts, IsSolved, IsRootBound, IsChecked}
 use Rattle.pq_cli.specs.Problems.{Used, used}
 use Rattle.pq_cli.specs.Work.{Work, Search, fault_in}
@@ -56,6 +58,14 @@ auditing = record {
   search = None;
 }
 
+-- the history of a script
+abbrev pub tracing : ℕ → Work
+tracing capacity = record {
+  first_fault = λ bytes. fault_in (script_of 1 bytes);
+  IsAnswer = λ bytes status text. (status ≡ statuses.Ok) × IsTraced capacity bytes text;
+  search = None;
+}
+
 -- what is to be done with a problem
 abbrev pub task_work : {I N P : Type 0} → (I → Meaning N P) → Texts I P → Task → Work
 task_work meaning texts (Solve nodes capacity) = solving meaning texts nodes capacity
@@ -70,4 +80,5 @@ abbrev pub work_of : Command → Work
 work_of (commands.Solve kind queue workers nodes capacity) = used_work (used kind) (Solve nodes capacity)
 work_of (commands.Bound kind) = used_work (used kind) Bound
 work_of (commands.Check kind) = used_work (used kind) Check
+work_of (commands.Trace queue capacity) = tracing capacity
 work_of commands.Audit = auditing

@@ -4,10 +4,12 @@ pub mod Words
 pub mod Sayings
 pub mod CommandWords
 pub mod Texts
+pub mod Answers
 pub mod Using
 pub mod Problems
 pub mod Work
 pub mod Auditing
+pub mod Tracing
 pub mod Commands
 pub mod Streams
 pub mod Refusals

@@ -1,10 +1,15 @@
 -- What becomes of a refusal on its way up.
+use Rattle.std.specs.Prelude.{Result, Ok, Err}
 use Rattle.pq_io.specs.declared.text.fault.ReadRefusal.{ReadRefusal}
 use Rattle.pq_io.specs.declared.text.fault.ReadRefusal.TheVariants as reads
 use Rattle.pq_io.specs.declared.input.InputRefusal.{InputRefusal}
 use Rattle.pq_io.specs.declared.input.InputRefusal.TheVariants as inputs
+use Rattle.bb_pool.specs.declared.outcome.Outcome.{Outcome}
+use Rattle.bb_pool.specs.declared.outcome.Outcome.TheVariants as outcomes
 use Rattle.pq_cli.specs.declared.refusal.Refusal.{Refusal}
 use Rattle.pq_cli.specs.declared.refusal.Refusal.TheVariants as refusals
+use Rattle.pq_cli.specs.declared.words.reading.WordsRefusal.{WordsRefusal}
+use Rattle.pq_cli.specs.declared.words.reading.WordsRefusal.TheVariants as words
 use Rattle.pq_cli.specs.declared.status.Status.{Status}
 use Rattle.pq_cli.specs.declared.status.Status.TheVariants as statuses
 
@@ -18,6 +23,18 @@ abbrev pub of_input : InputRefusal → Refusal
 of_input (inputs.BadInput fault) = refusals.BadInput fault
 of_input inputs.ReadFault = refusals.ReadFault
 of_input inputs.NoMemory = refusals.NoMemory
+
+-- of a search: its plan stays its plan
+abbrev pub plan_of : {P : Type 0} → Outcome P → Result P Refusal
+plan_of (outcomes.Best plan cost) = Ok plan
+plan_of (outcomes.NodeLimit asked limit) = Err (refusals.NodeLimit asked limit)
+plan_of (outcomes.Full place) = Err (refusals.Full place)
+plan_of outcomes.NoMemory = Err refusals.NoMemory
+
+-- of the words
+abbrev pub of_words : WordsRefusal → Status
+of_words words.BadWords = statuses.BadWords
+of_words words.NoMemory = statuses.NoMemory
 
 -- of a command
 abbrev pub status_of : Refusal → Status

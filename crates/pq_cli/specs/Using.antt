@@ -19,15 +19,18 @@ pub record Texts (I P : Type 0) : Type 1 where
   -- the status and the text of the verdict on a plan and the number that is stated for it
   pub IsVerdict : I → Claimed P → Status → List ℕ → Type 0
 
--- The text of a plan of the instance that was read, which is feasible and costs no more than any feasible plan.
+-- a feasible plan that no feasible plan betters
+pub record IsBestPlan {N P : Type 0} (m : Meaning N P) (plan : P) : Type 0 where
+  pub feasible : m.is_feasible plan
+  pub cheapest : (other : P) → m.is_feasible other → m.cost_of plan ≤ m.cost_of other
+
+-- The text of a best plan of the instance that was read.
 pub record IsSolution {I N P : Type 0} (meaning : I → Meaning N P) (texts : Texts I P)
     (bytes text : List ℕ) : Type 0 where
   pub instance : I
   pub plan : P
   pub reads : texts.instance_of bytes ≡ Ok instance
-  pub feasible : (meaning instance).is_feasible plan
-  pub cheapest : (other : P) → (meaning instance).is_feasible other
-      → (meaning instance).cost_of plan ≤ (meaning instance).cost_of other
+  pub best : IsBestPlan (meaning instance) plan
   pub written : text ≡ texts.plan_text instance plan
 
 -- The same, found by a search within its limits: no search finds it with fewer nodes, or with less room for open ones.

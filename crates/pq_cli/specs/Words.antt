@@ -36,9 +36,13 @@ abbrev pub ok_of : Result ℕ Cause → Option ℕ
 ok_of (Ok n) = Some n
 ok_of (Err cause) = None
 
--- the number that the word spells, at most 4,294,967,295; no option takes a greater one
+-- the greatest number that the word of an option may spell; no option takes a greater one
+abbrev pub option_limit : ℕ
+option_limit = 4294967295
+
+-- the number that the word spells
 abbrev pub number_in : List ℕ → Option ℕ
-number_in word = ok_of (number_of 0 4294967295 word)
+number_in word = ok_of (number_of 0 option_limit word)
 
 -- the settings with this problem
 unfoldable pub with_kind : Settings → List ℕ → Option Settings

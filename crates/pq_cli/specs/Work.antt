@@ -3,12 +3,16 @@ use Rattle.std.specs.Prelude.{ℕ, ◌≡◌, ◌*◌, ◌<◌, ◌≤◌, nat_l
 use Rattle.std.specs.Prelude.{IfSome, MatchOption, Result, Ok, Err}
 use Rattle.pq_io.specs.declared.text.fault.BadInput.{BadInput}
 use Rattle.pq_io.specs.Inputs.{longest_input, too_large}
-use Rattle.bb_pool.specs.Outcomes.{IsOverLimit, IsFullAt}
+use Rattle.bb_problem.specs.Meaning.{Meaning}
+use Rattle.bb_problem.specs.Tree.{needed}
+use Rattle.bb_pool.specs.Outcomes.{IsOverLimit, IsFullAt, LeaveRoom}
 use Rattle.pq_cli.specs.declared.answer.Answer.{Answer}
 use Rattle.pq_cli.specs.declared.refusal.Refusal.{Refusal}
 use Rattle.pq_cli.specs.declared.refusal.Refusal.TheVariants as refusals
 use Rattle.pq_cli.specs.declared.status.Status.{Status}
+use Rattle.pq_cli.specs.Answers.{status_in, text_in, IsWritable}
 use Rattle.pq_cli.specs.Statuses.{IsAnswered}
+use Rattle.pq_cli.specs.Using.{IsBestPlan}
 
 -- A search, with its limits.
 pub record Search : Type 0 where
@@ -58,15 +62,17 @@ Explains work bytes (refusals.Full place) = IsFilled work bytes place
 Explains work bytes refusals.ReadFault = ⊥
 Explains work bytes refusals.NoMemory = Unit {0}
 
--- the same of a search alone, which has to make so many nodes
-abbrev pub ExplainsSearch : ℕ → ℕ → ℕ → Refusal → Type 0
-ExplainsSearch needs nodes capacity (refusals.BadInput fault) = ⊥
-ExplainsSearch needs nodes capacity (refusals.NodeLimit asked limit) = IsOverLimit needs nodes asked limit
-ExplainsSearch needs nodes capacity (refusals.Full place) = IsFullAt needs nodes capacity place
-ExplainsSearch needs nodes capacity refusals.ReadFault = ⊥
-ExplainsSearch needs nodes capacity refusals.NoMemory = Unit {0}
+-- What a search under these limits came to: a best plan, or a refusal and its cause.
+abbrev pub IsPlanned : {N P : Type 0} → Meaning N P → ℕ → ℕ → Result P Refusal → Type 0
+IsPlanned m nodes capacity (Ok plan) = IsBestPlan m plan × LeaveRoom m.tree m.least nodes capacity
+IsPlanned m nodes capacity (Err (refusals.BadInput fault)) = ⊥
+IsPlanned m nodes capacity (Err (refusals.NodeLimit asked limit)) = IsOverLimit (needed m.tree m.least) nodes asked limit
+IsPlanned m nodes capacity (Err (refusals.Full place)) = IsFullAt (needed m.tree m.least) nodes capacity place
+IsPlanned m nodes capacity (Err refusals.ReadFault) = ⊥
+IsPlanned m nodes capacity (Err refusals.NoMemory) = Unit {0}
 
 -- What the work on these bytes came to: its answer, or a refusal and its cause.
 abbrev pub Meets : Work → List ℕ → Result Answer Refusal → Type 0
-Meets work bytes (Ok answer) = IsAnswered answer.status × work.IsAnswer bytes answer.status answer.text.items
+Meets work bytes (Ok answer) =
+    IsAnswered (status_in answer) × work.IsAnswer bytes (status_in answer) (text_in answer) × IsWritable answer
 Meets work bytes (Err refusal) = Explains work bytes refusal

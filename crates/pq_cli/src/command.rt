@@ -35,6 +35,12 @@ pub enum Command {
     Check {
         kind: Kind,
     },
+    /// Reads a script, runs it on a queue, and writes the history of its calls.
+    Trace {
+        queue: Which,
+        /// How many entries the queue takes: 1 to 1,048,576.
+        capacity: u32,
+    },
     /// Reads a history, and says whether a bounded priority multiset could have answered so.
     Audit,
 }

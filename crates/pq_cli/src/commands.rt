@@ -3,6 +3,7 @@
 
 ghost use Rattle.std.specs.Prelude.{◌≤◌, IfOk, IfErr, length};
 ghost use Rattle.pq_io.specs.Inputs.{longest_input};
+ghost use Rattle.pq_cli.specs.Answers.{status_in, text_in, IsWritable};
 ghost use Rattle.pq_cli.specs.CommandWords.{HasLimits, HasTaskLimits};
 ghost use Rattle.pq_cli.specs.Commands.{work_of, used_work, task_work};
 ghost use Rattle.pq_cli.specs.Problems.{used};
@@ -15,6 +16,7 @@ mod bound;
 mod check;
 mod solve;
 mod task;
+mod trace;
 
 use crate::answer::Answer;
 use crate::command::{Command, Kind};
@@ -23,6 +25,7 @@ use crate::commands::bound::bound;
 use crate::commands::check::check;
 use crate::commands::solve::solve;
 use crate::commands::task::Task;
+use crate::commands::trace::trace;
 use crate::problem::UsedProblem;
 use crate::refusal::Refusal;
 use bb_knap::Knapsack;
@@ -35,7 +38,8 @@ use std::alloc::Global;
 pub fn respond<I: Source>(alloc: Global, command: Command, input: &mut I) -> Result<Answer, Refusal>
     requires { HasLimits command }
     ensures answers { IfOk result (λ a.
-        Answers (work_of command) a.status a.text.items (change I.left I.faults input.old input.new)) }
+        Answers (work_of command) (status_in a) (text_in a) (change I.left I.faults input.old input.new)) }
+    ensures writable { IfOk result IsWritable }
     ensures stops { IfErr result (Stops (work_of command) (change I.left I.faults input.old input.new)) }
 {
     let bytes = gather_input(alloc, input)?;
@@ -56,6 +60,7 @@ fn respond_to(alloc: Global, command: Command, bytes: &[u8]) -> Result<Answer, R
         } => on_problem(alloc, kind, Task::Solve { nodes, capacity }, bytes),
         Command::Bound { kind } => on_problem(alloc, kind, Task::Bound, bytes),
         Command::Check { kind } => on_problem(alloc, kind, Task::Check, bytes),
+        Command::Trace { capacity, .. } => trace(alloc, bytes, capacity),
         Command::Audit => audit(alloc, bytes),
     }
 }

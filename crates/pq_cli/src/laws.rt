@@ -1,16 +1,26 @@
 //! Laws of the commands together.
 
-ghost use Rattle.std.specs.Prelude.{ℕ, ◌≤◌, ◌++◌, List, [], ◌∷◌, length};
-ghost use Rattle.pq_io.specs.Inputs.{longest_input};
+ghost use Rattle.std.specs.Prelude.{ℕ, ◌≡◌, List};
+ghost use Rattle.pq_model.specs.declared.marks.Act.{Act};
+ghost use Rattle.pq_model.specs.declared.marks.Mark.{Mark};
 ghost use Rattle.pq_cli.specs.declared.command.Kind.{Kind};
 ghost use Rattle.pq_cli.specs.declared.command.Kind.TheVariants as kinds;
 ghost use Rattle.pq_cli.specs.Problems.{used, IsCheckable};
+ghost use Rattle.pq_cli.specs.Tracing.{IsTraceOf};
 
 use bb_knap::value_and_cost_are_all;
 use bb_shop::best_starts_are_early;
 use inst_text::{
     choices_are_read_behind, knapsack_texts_are_read, shop_texts_are_read, starts_are_read_behind,
 };
+
+/// Law: on a queue of one seat and this capacity, these commands have one history. So what `trace` writes is a function of
+/// its input and its words.
+#[tactic(auto, using(crate::proofs::OneTrace::traces_are_one))]
+pub fn traces_are_one()
+    ensures { (capacity : ℕ) (acts : List Act) (h k : List Mark) →
+        IsTraceOf capacity acts h → IsTraceOf capacity acts k → h ≡ k }
+{}
 
 /// Law: what `solve` answers to an instance, `check` finds feasible behind it: behind any text of the instance that
 /// ends with a line feed, if the two together are not too long for an input.

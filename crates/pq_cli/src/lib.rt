@@ -6,6 +6,7 @@ mod command;
 mod commands;
 mod labelled;
 mod laws;
+mod plain;
 mod problem;
 mod problems;
 mod refusal;
@@ -17,7 +18,7 @@ mod tests;
 mod words;
 
 pub use command::{Command, Kind, Which};
-pub use laws::solutions_are_checked;
+pub use laws::{solutions_are_checked, traces_are_one};
 pub use reporting::report;
 pub use run::run_still;
 pub use status::Status;

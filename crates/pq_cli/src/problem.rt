@@ -2,6 +2,7 @@
 
 ghost use Rattle.std.specs.Prelude.{ℕ, List, ◌≡◌, IfOk};
 ghost use Rattle.pq_io.specs.Reading.{Gives};
+ghost use Rattle.pq_cli.specs.Answers.{status_in, text_in, IsWritable};
 ghost use Rattle.pq_cli.specs.Statuses.{IsAnswered};
 ghost use Rattle.pq_cli.specs.Using.{Texts};
 
@@ -45,6 +46,6 @@ pub trait UsedProblem: Problem + Drop {
     /// The verdict on a plan and the number that is stated for it.
     fn judge(&self, alloc: Global, claimed: &Claimed<Self::Plan>) -> Result<Answer, NoMemory>
         requires { suits self.now claimed.now.plan }
-        ensures judged { IfOk result (λ a. texts.IsVerdict self.now claimed.now a.status a.text.items) }
-        ensures answered { IfOk result (λ a. IsAnswered a.status) };
+        ensures judged { IfOk result (λ a. texts.IsVerdict self.now claimed.now (status_in a) (text_in a)) }
+        ensures answered { IfOk result (λ a. IsAnswered (status_in a) × IsWritable a) };
 }

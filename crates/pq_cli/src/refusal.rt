@@ -3,7 +3,9 @@
 ghost use Rattle.std.specs.Prelude.{◌≡◌};
 
 use crate::status::Status;
+use crate::words::WordsRefusal;
 use pq_io::{BadInput, InputRefusal, NoMemory, ReadRefusal};
+use std::alloc::AllocError;
 
 /// Why there is no answer to an input.
 #[derive(Clone, Copy, Debug, PartialEq, Eq)]
@@ -21,6 +23,16 @@ impl From<NoMemory> for Refusal {
     ghost from_gives = { λ _ e. e ≡ refusals.NoMemory };
 
     fn from(_error: NoMemory) -> Refusal {
+        Refusal::NoMemory
+    }
+}
+
+impl From<AllocError> for Refusal {
+    ghost use Rattle.pq_cli.specs.declared.refusal.Refusal.TheVariants as refusals;
+
+    ghost from_gives = { λ _ e. e ≡ refusals.NoMemory };
+
+    fn from(_error: AllocError) -> Refusal {
         Refusal::NoMemory
     }
 }
@@ -48,6 +60,19 @@ impl From<InputRefusal> for Refusal {
             InputRefusal::BadInput(fault) => Refusal::BadInput(fault),
             InputRefusal::ReadFault => Refusal::ReadFault,
             InputRefusal::NoMemory => Refusal::NoMemory,
+        }
+    }
+}
+
+impl From<WordsRefusal> for Status {
+    ghost use Rattle.pq_cli.specs.Refusals.{of_words};
+
+    ghost from_gives = { λ r s. s ≡ of_words r };
+
+    fn from(refusal: WordsRefusal) -> Status {
+        match refusal {
+            WordsRefusal::BadWords => Status::BadWords,
+            WordsRefusal::NoMemory => Status::NoMemory,
         }
     }
 }

@@ -2,17 +2,20 @@
 
 ghost use Rattle.std.specs.Prelude.{◌≡◌, Some};
 ghost use Rattle.pq_cli.specs.declared.command.Command.{Command};
+ghost use Rattle.pq_cli.specs.Answers.{status_in, text_in, IsWritable};
 ghost use Rattle.pq_cli.specs.CommandWords.{command_of, texts};
 ghost use Rattle.pq_cli.specs.Commands.{work_of};
 ghost use Rattle.pq_cli.specs.Runs.{IsRun, IsRunAndReported, IsAnsweredWhole, IsComplete, IsWritten};
 ghost use Rattle.pq_cli.specs.Statuses.{IsAnswered};
 ghost use Rattle.pq_cli.specs.Streams.{change};
 
+use crate::answer::Answer;
 use crate::commands::respond;
 use crate::reporting::report;
 use crate::status::Status;
-use crate::words::{WordsRefusal, read_words};
-use pq_io::{Sink, Source, put_all};
+use crate::words::read_words;
+use pq_io::{Failed, Sink, Source, put_all};
+use pq_tape::{History, write_history};
 use std::alloc::Global;
 
 /// Runs the command that the words say, without threads and without waiting.
@@ -57,21 +60,29 @@ fn run_words<I: Source, O: Sink>(
 {
     let command = match read_words(alloc, words) {
         Ok(command) => command,
-        Err(WordsRefusal::BadWords) => return Status::BadWords,
-        Err(WordsRefusal::NoMemory) => return Status::NoMemory,
+        Err(refusal) => return Status::from(refusal),
     };
     match respond(alloc, command, input) {
-        Ok(answer) => written(output, &answer.text, answer.status),
+        Ok(answer) => write_answer(output, &answer),
         Err(refusal) => Status::from(refusal),
     }
 }
 
-// Writes the text, and gives the status that comes with it where all of it was written.
-fn written<O: Sink>(output: &mut O, text: &[u8], status: Status) -> Status
-    ensures { IsWritten text.now status result (change O.written O.faults output.old output.new) }
+// Writes the answer, and gives the status that comes with it where all of it was written.
+fn write_answer<O: Sink>(output: &mut O, answer: &Answer) -> Status
+    requires { IsWritable answer.now }
+    ensures { IsWritten (text_in answer.now) (status_in answer.now) result
+        (change O.written O.faults output.old output.new) }
 {
-    match put_all(output, text) {
+    let (written, status) = match answer {
+        Answer::Text { status, text } => (put_all(output, text), *status),
+        Answer::Trace(history) => {
+            let History { head, marks, left } = history;
+            (write_history(*head, marks, *left, output), Status::Ok)
+        }
+    };
+    match written {
         Ok(()) => status,
-        Err(_) => Status::WriteFault,
+        Err(Failed) => Status::WriteFault,
     }
 }

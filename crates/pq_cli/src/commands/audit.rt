@@ -22,11 +22,11 @@ pub fn audit(alloc: Global, bytes: &[u8]) -> Result<Answer, Refusal>
 {
     let history = read_history(alloc, bytes)?;
     match bad_place(alloc, &history)? {
-        None => Ok(Answer {
+        None => Ok(Answer::Text {
             status: Status::Ok,
             text: legal_text(alloc, history.left)?,
         }),
-        Some(place) => Ok(Answer {
+        Some(place) => Ok(Answer::Text {
             status: Status::Illegal,
             text: bad_text(alloc, place)?,
         }),

@@ -19,7 +19,7 @@ pub fn bound<P: UsedProblem>(alloc: Global, bytes: &[u8]) -> Result<Answer, Refu
 {
     let problem = P::read(alloc, bytes)?;
     let text = bound_text(alloc, problem.root_bound())?;
-    Ok(Answer {
+    Ok(Answer::Text {
         status: Status::Ok,
         text,
     })

@@ -42,7 +42,7 @@ impl UsedProblem for Knapsack {
 
     fn judge(&self, alloc: Global, claimed: &Claimed<Choice>) -> Result<Answer, NoMemory> {
         let verdict = self.judge(&claimed.plan, claimed.stated);
-        Ok(Answer {
+        Ok(Answer::Text {
             status: verdict_status(verdict),
             text: verdict_text(alloc, claimed.stated, verdict)?,
         })

@@ -38,7 +38,7 @@ impl UsedProblem for Shop {
 
     fn judge(&self, alloc: Global, claimed: &Claimed<Starts>) -> Result<Answer, NoMemory> {
         let verdict = self.judge(&claimed.plan, claimed.stated);
-        Ok(Answer {
+        Ok(Answer::Text {
             status: verdict_status(verdict),
             text: verdict_text(alloc, claimed.stated, verdict)?,
         })

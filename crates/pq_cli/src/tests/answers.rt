@@ -41,6 +41,12 @@ fn answers_inputs(rt: HostRuntime) -> Result<(), Fail> {
             Status::Illegal,
             "bad machine 0 0 1 0\n",
         ),
+        (
+            "trace --queue plain",
+            "+ 5 1\n+ 3 2\n-\n-\n-\n",
+            Status::Ok,
+            TRUE_HISTORY,
+        ),
         ("audit", TRUE_HISTORY, Status::Ok, "legal\nleft 0\n"),
         ("audit", WRONG_ORDER, Status::Illegal, "bad 2\n"),
     ] {

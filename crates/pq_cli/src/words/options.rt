@@ -34,11 +34,14 @@ fn which_of(word: &[u8]) -> Option<Which>
     }
 }
 
-// The number that the word spells, at most 4,294,967,295.
+/// The greatest number that the word of an option may spell; no option takes a greater one.
+const OPTION_LIMIT: u64 = 4_294_967_295;
+
+// The number that the word spells, at most `OPTION_LIMIT`.
 fn number_in(word: &[u8]) -> Option<u64>
     ensures { result ≡ number_in word.now }
 {
-    match digits(word, 0, 4_294_967_295) {
+    match digits(word, 0, OPTION_LIMIT) {
         Ok(number) => Some(number),
         Err(_) => None,
     }

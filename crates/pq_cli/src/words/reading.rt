@@ -3,12 +3,20 @@
 ghost use Rattle.std.specs.Prelude.{◌≡◌, ◌<◌, ◌≤◌, [], ◌∷◌, length, IfOk, IfSome, MatchOption};
 ghost use Rattle.pq_cli.specs.Words.{settings_from, is_silent};
 ghost use Rattle.pq_cli.specs.CommandWords.{HasLimits, answer_of, command_of, texts, within, solve_from, kind_alone};
-ghost use Rattle.pq_cli.specs.CommandWords.{bound_from, check_from, audit_from};
+ghost use Rattle.pq_cli.specs.CommandWords.{bound_from, check_from, trace_from, audit_from};
 
 use crate::command::{Command, Kind};
 use crate::words::options::{pair_name, with_lone, with_option};
 use crate::words::settings::Settings;
+use bb_pool::MAX_NODES;
+use pq_model::MAX_CAPACITY;
 use std::alloc::Global;
+
+/// How many nodes a search may make where it is not said.
+const DEFAULT_NODES: u64 = 100_000;
+
+/// How many entries a traced queue takes where it is not said.
+const DEFAULT_CAPACITY: u64 = 1_024;
 
 /// Why the words are read as no command.
 #[derive(Clone, Copy, Debug, PartialEq, Eq)]
@@ -43,6 +51,8 @@ fn command_of(words: &[String]) -> Option<Command>
         bound_from(settings_from(Settings::NONE, behind)?)
     } else if name == b"check".as_slice() {
         check_from(settings_from(Settings::NONE, behind)?)
+    } else if name == b"trace".as_slice() {
+        trace_from(settings_from(Settings::NONE, behind)?)
     } else if name == b"audit".as_slice() {
         audit_from(settings_from(Settings::NONE, behind)?)
     } else {
@@ -97,8 +107,12 @@ fn solve_from(said: Settings) -> Option<Command>
     let kind = said.kind?;
     let queue = said.queue?;
     let workers = within(1, 1, said.workers.unwrap_or(1))?;
-    let nodes = within(1, 1_048_560, said.nodes.unwrap_or(100_000))?;
-    let capacity = within(workers, 1_048_576, said.capacity.unwrap_or(nodes + workers))?;
+    let nodes = within(1, u64::from(MAX_NODES), said.nodes.unwrap_or(DEFAULT_NODES))?;
+    let capacity = within(
+        workers,
+        u64::from(MAX_CAPACITY),
+        said.capacity.unwrap_or(nodes + workers),
+    )?;
     Some(Command::Solve {
         kind,
         queue,
@@ -143,6 +157,24 @@ fn check_from(said: Settings) -> Option<Command>
 {
     let kind = kind_alone(said)?;
     Some(Command::Check { kind })
+}
+
+#[tactic(auto, unfolding(crate::specs::CommandWords::trace_from))]
+fn trace_from(said: Settings) -> Option<Command>
+    ensures exact { result ≡ trace_from said }
+    ensures limits { IfSome result HasLimits }
+{
+    let queue = said.queue?;
+    let capacity = said.capacity.unwrap_or(DEFAULT_CAPACITY);
+    let capacity = within(1, u64::from(MAX_CAPACITY), capacity)?;
+    if said.kind.is_none() && said.workers.is_none() && said.nodes.is_none() {
+        Some(Command::Trace {
+            queue,
+            capacity: capacity as u32,
+        })
+    } else {
+        None
+    }
 }
 
 #[tactic(auto, unfolding(crate::specs::CommandWords::audit_from))]

@@ -12,8 +12,8 @@ returns c = λ bytes text s size.
     let shop = s.instance in
     let claimed : Claimed (List (List ℕ)) = record { stated = makespan shop s.plan; plan = s.plan } in
     let is = (c.shop_texts_are_read.ensures (bytes ++ 10 ∷ []) shop).0 s.reads in
-    let early = c.best_starts_are_early.ensures shop s.plan is.limits (record { feasible = s.feasible; cheapest = s.cheapest }) in
-    let shape : AreStartsOf shop s.plan = record { jobs = s.feasible.shaped.rows; steps = s.feasible.shaped.times; limits = early } in
+    let early = c.best_starts_are_early.ensures shop s.plan is.limits (record { feasible = s.best.feasible; cheapest = s.best.cheapest }) in
+    let shape : AreStartsOf shop s.plan = record { jobs = s.best.feasible.shaped.rows; steps = s.best.feasible.shaped.times; limits = early } in
     let read = c.starts_are_read_behind.ensures bytes shop claimed is (makespan_within shop s.plan is.limits early) shape
     (subst (λ (t : List ℕ). length (bytes ++ 10 ∷ t) ≤ longest_input) s.written size) in (
       claimed.stated,
@@ -21,6 +21,6 @@ returns c = λ bytes text s size.
         instance = shop;
         claimed = claimed;
         reads = ap (λ (t : List ℕ). shop_plan_of (bytes ++ 10 ∷ t)) s.written ∙ read;
-        judged = record { verdict = Feasible; judged = (s.feasible, refl); ended = refl; written = refl };
+        judged = record { verdict = Feasible; judged = (s.best.feasible, refl); ended = refl; written = refl };
       },
     )

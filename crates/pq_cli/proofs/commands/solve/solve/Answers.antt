@@ -11,11 +11,11 @@ returns g c = (
         instance = c.in_ok-problem.problem;
         plan = c.in_ok-plan.plan;
         reads = c.in_ok-problem.ensures;
-        feasible = c.in_ok-plan.ensures.best.feasible_is;
-        cheapest = c.in_ok-plan.ensures.best.least;
+        best = c.in_ok-plan.ensures.0;
         written = c.in_ok-text.ensures;
       };
-      room = c.in_ok-plan.ensures.room;
+      room = c.in_ok-plan.ensures.1;
     },
   ),
+  tt,
 )
