@@ -1,110 +1,93 @@
-//! Small knapsacks by hand.
+//! Small knapsacks by hand, and the greatest.
 
-ghost use Rattle.std.specs.Prelude.{◌≡◌, IfOk};
-ghost use Rattle.inst_text.specs.Knapsack.{IsInstance, AreNumbers};
-
-use crate::{KnapNode, KnapVerdict, Knapsack};
+use crate::{KnapNode, KnapWalk, Knapsack};
 use bb_problem::{Problem, Step};
-use inst_text::{Choice, Item, Items};
+use inst_text::{Choice, read_knapsack, read_plan_knapsack};
 use pq_io::NoMemory;
 use std::alloc::Global;
 use std::test::Fail;
 
-const TEN: [Item; 10] = [
-    Item {
-        weight: 23,
-        value: 92,
-    },
-    Item {
-        weight: 31,
-        value: 57,
-    },
-    Item {
-        weight: 29,
-        value: 49,
-    },
-    Item {
-        weight: 44,
-        value: 68,
-    },
-    Item {
-        weight: 53,
-        value: 60,
-    },
-    Item {
-        weight: 38,
-        value: 43,
-    },
-    Item {
-        weight: 63,
-        value: 67,
-    },
-    Item {
-        weight: 85,
-        value: 84,
-    },
-    Item {
-        weight: 89,
-        value: 87,
-    },
-    Item {
-        weight: 82,
-        value: 72,
-    },
-];
+const THREE: &str = "3 5\n2 3\n3 4\n4 5\n";
 
-const THREE: [Item; 3] = [
-    Item {
-        weight: 2,
-        value: 3,
-    },
-    Item {
-        weight: 3,
-        value: 4,
-    },
-    Item {
-        weight: 4,
-        value: 5,
-    },
-];
-
-// two items without weight among others
-const MIXED: [Item; 4] = [
-    Item {
-        weight: 5,
-        value: 10,
-    },
-    Item {
-        weight: 0,
-        value: 1,
-    },
-    Item {
-        weight: 3,
-        value: 9,
-    },
-    Item {
-        weight: 0,
-        value: 7,
-    },
-];
-
-fn knapsack(alloc: Global, capacity: u64, items: &[Item]) -> Result<Knapsack, NoMemory>
-    requires { IsInstance (record { capacity = capacity; items = items.now }) }
-    ensures { IfOk result (λ k. k ≡ record { capacity = capacity; items = items.now }) }
-{
-    let items = Items {
-        capacity,
-        items: Vec::from_slice(alloc, items)?,
-    };
-    Knapsack::new(alloc, items)
+fn knapsack(alloc: Global, text: &str) -> Result<Knapsack, Fail> {
+    let items = read_knapsack(alloc, text.as_bytes())?;
+    Ok(Knapsack::new(alloc, items)?)
 }
 
-// the children of a node, none of a leaf
-fn children(alloc: Global, knapsack: &Knapsack, node: KnapNode) -> Result<Vec<KnapNode>, NoMemory> {
-    match knapsack.expand(alloc, node)? {
-        Step::Leaf(_) => Ok(Vec::new(alloc)),
-        Step::Branch(nodes) => Ok(nodes),
+#[test]
+fn knows_its_instance(rt: HostRuntime) -> Result<(), Fail> {
+    let alloc = rt.alloc();
+    let text = format!(in alloc; "{THREE}value 8\nitems 0 2\n")?;
+    let (items, claimed) = read_plan_knapsack(alloc, text.as_bytes())?;
+    let three = Knapsack::new(alloc, items)?;
+    assert_eq!(rt; three.capacity(), 5);
+    assert_eq!(rt; three.items().len(), 3);
+    assert_eq!(rt; three.total_value(), 12);
+    assert_eq!(rt; three.value_of(&claimed.plan), 8);
+    assert_eq!(rt; three.cost(&claimed.plan), 4);
+    Ok(())
+}
+
+#[test]
+fn judges_choices(rt: HostRuntime) -> Result<(), Fail> {
+    let alloc = rt.alloc();
+    let rows = [
+        ("value 7\nitems 0 1\n", "feasible"),
+        ("value 7\nitems 0 2\n", "bad weight 6"),
+        ("value 8\nitems 0 1\n", "bad value 7"),
+    ];
+    for (plan, verdict) in rows {
+        let text = format!(in alloc; "{THREE}{plan}")?;
+        let (items, claimed) = read_plan_knapsack(alloc, text.as_bytes())?;
+        let found = Knapsack::new(alloc, items)?.judge(&claimed.plan, claimed.stated);
+        assert_eq!(rt; format!(in alloc; "{found}")?.as_str(), verdict);
     }
+    Ok(())
+}
+
+#[test]
+fn orders_items_and_bounds_them(rt: HostRuntime) -> Result<(), Fail> {
+    let rows = [
+        (THREE, [0, 1, 2].as_slice(), 7),
+        ("4 7\n5 10\n0 1\n3 9\n0 7\n", [1, 3, 2, 0].as_slice(), 25),
+        ("0 0\n", [].as_slice(), 0),
+    ];
+    for (text, order, bound) in rows {
+        let knapsack = knapsack(rt.alloc(), text)?;
+        assert_eq!(rt; knapsack.order(), order, "at {text}");
+        assert_eq!(rt; knapsack.root_bound(), bound, "at {text}");
+    }
+    Ok(())
+}
+
+// the bounds of a node's children, none of a leaf
+fn bounds(alloc: Global, knapsack: &Knapsack, node: KnapNode) -> Result<Vec<u32>, NoMemory> {
+    let mut bounds = Vec::new(alloc);
+    if let Step::Branch(nodes) = knapsack.expand(alloc, node)? {
+        for node in &nodes {
+            bounds.push(knapsack.bound(node))?;
+        }
+    }
+    Ok(bounds)
+}
+
+#[test]
+fn branches_and_walks(rt: HostRuntime) -> Result<(), Fail> {
+    let alloc = rt.alloc();
+    let three = knapsack(alloc, THREE)?;
+    let root = three.root(alloc)?;
+    assert_eq!(rt; three.bound(&root), 5);
+    assert_eq!(rt; bounds(alloc, &three, root)?.as_slice(), [5, 6].as_slice());
+    let mut walk = KnapWalk::new(alloc, &three)?;
+    assert_eq!(rt; walk.bound(), 5);
+    assert!(rt; !walk.is_leaf());
+    walk.enter()?;
+    assert_eq!(rt; walk.bound(), 5);
+    walk.skip();
+    assert_eq!(rt; walk.bound(), 6);
+    walk.skip();
+    assert!(rt; walk.is_over());
+    Ok(())
 }
 
 // the plan that is come to by first children alone
@@ -126,73 +109,23 @@ fn first_plan(alloc: Global, knapsack: &Knapsack) -> Result<Option<Choice>, NoMe
 }
 
 #[test]
-fn reads_a_knapsack(rt: HostRuntime) -> Result<(), Fail> {
+fn comes_to_plans(rt: HostRuntime) -> Result<(), Fail> {
     let alloc = rt.alloc();
-    let three = knapsack(alloc, 5, &THREE)?;
-    assert_eq!(rt; three.capacity(), 5);
-    assert_eq!(rt; three.items(), THREE.as_slice());
-    assert_eq!(rt; three.total_value(), 12);
-    let ends = Choice {
-        numbers: vec![in alloc; 0, 2]?,
-    };
-    assert_eq!(rt; three.value_of(&ends), 8);
-    assert_eq!(rt; three.cost(&ends), 4);
-    Ok(())
-}
-
-// the verdict on a choice of three items with capacity 5
-fn judged(alloc: Global, numbers: &[u32], stated: u32) -> Result<KnapVerdict, NoMemory>
-    requires limits { AreNumbers 0 1024 numbers.now }
-    requires three { AreNumbers 0 3 numbers.now }
-{
-    let choice = Choice {
-        numbers: Vec::from_slice(alloc, numbers)?,
-    };
-    Ok(knapsack(alloc, 5, &THREE)?.judge(&choice, stated))
-}
-
-#[test]
-fn judges_choices(rt: HostRuntime) -> Result<(), Fail> {
-    let alloc = rt.alloc();
-    assert_eq!(rt; judged(alloc, &[0, 2], 7)?, KnapVerdict::BadWeight(6));
-    assert_eq!(rt; judged(alloc, &[0, 1], 8)?, KnapVerdict::BadValue(7));
-    assert_eq!(rt; judged(alloc, &[0, 1], 7)?, KnapVerdict::Feasible);
-    Ok(())
-}
-
-#[test]
-fn bounds_and_branches(rt: HostRuntime) -> Result<(), Fail> {
-    let alloc = rt.alloc();
-    let three = knapsack(alloc, 5, &THREE)?;
-    assert_eq!(rt; three.root_bound(), 7);
-    let root = three.root(alloc)?;
-    assert_eq!(rt; three.bound(&root), 5);
-    let nodes = children(alloc, &three, root)?;
-    assert_eq!(rt; nodes.len(), 2);
-    assert_eq!(rt; three.bound(&nodes[0]), 5);
-    assert_eq!(rt; three.bound(&nodes[1]), 6);
-    Ok(())
-}
-
-#[test]
-fn orders_items_without_weight_first(rt: HostRuntime) -> Result<(), Fail> {
-    let alloc = rt.alloc();
-    let mixed = knapsack(alloc, 7, &MIXED)?;
-    assert_eq!(rt; mixed.order(), [1, 3, 2, 0].as_slice());
-    assert_eq!(rt; mixed.root_bound(), 25);
-    Ok(())
-}
-
-#[test]
-fn comes_to_the_plan_of_ten_items(rt: HostRuntime) -> Result<(), Fail> {
-    let alloc = rt.alloc();
-    let ten = knapsack(alloc, 165, &TEN)?;
+    let ten = knapsack(
+        alloc,
+        "10 165\n23 92\n31 57\n29 49\n44 68\n53 60\n38 43\n63 67\n85 84\n89 87\n82 72\n",
+    )?;
     assert_eq!(rt; ten.root_bound(), 309);
-    let Some(plan) = first_plan(alloc, &ten)? else {
-        assert!(rt; false);
-        return Ok(());
-    };
+    let plan = first_plan(alloc, &ten)?.ok_or("no leaf")?;
     assert_eq!(rt; plan.numbers.as_slice(), [0, 1, 2, 3, 5].as_slice());
     assert_eq!(rt; ten.cost(&plan), 370);
+    let mut text = String::from_str(alloc, "1024 1000000000000\n")?;
+    for _ in 0..1024 {
+        text.push_str("976562500 65535\n")?;
+    }
+    let greatest = knapsack(alloc, text.as_str())?;
+    let plan = first_plan(alloc, &greatest)?.ok_or("no leaf")?;
+    assert_eq!(rt; plan.numbers.len(), 1024);
+    assert_eq!(rt; greatest.cost(&plan), 0);
     Ok(())
 }

@@ -1,5 +1,6 @@
 -- What is found of a choice, its stated value and a proof, and what is made where a proof is asked for.
-use Rattle.std.specs.Prelude.{ℕ, ◌≡◌, ◌<◌, ◌≤◌, List, length, Bool, Option, Some, None}
+use Rattle.std.specs.Prelude.{ℕ, ◌≡◌, ◌<◌, ◌≤◌, List, ◌++◌, length, codes, Bool, Option, Some, None}
+use Rattle.std.specs.Fmt.{decimal}
 use Rattle.inst_text.specs.Knapsack.{Instance}
 use Rattle.bb_knap.specs.declared.verdict.KnapVerdict.TheVariants as choices
 use Rattle.bb_knap.specs.Plans.{IsFeasible, IsBest, value_of, cost_of}
@@ -22,6 +23,13 @@ IsProofVerdict i choice stated tokens (BadWeight w) = IsVerdict i choice stated 
 IsProofVerdict i choice stated tokens (BadValue v) = IsVerdict i choice stated (choices.BadValue v)
 IsProofVerdict i choice stated tokens (BadToken place) = FailsAt i choice stated tokens (Some place)
 IsProofVerdict i choice stated tokens Proved = FailsAt i choice stated tokens None
+
+-- the words of a verdict
+abbrev pub verdict_text : ProofVerdict → List ℕ
+verdict_text Proved = codes "proved"
+verdict_text (BadWeight w) = codes "bad weight " ++ decimal w
+verdict_text (BadValue v) = codes "bad value " ++ decimal v
+verdict_text (BadToken place) = codes "bad token " ++ decimal place
 
 -- no feasible choice is worth more than this one, which has the stated value
 pub record IsProvedBest (i : Instance) (choice : List ℕ) (stated : ℕ) : Type 0 where

@@ -1,5 +1,10 @@
 //! What is found of a plan and a proof.
 
+ghost use Rattle.std.specs.Prelude.{Some};
+ghost use Rattle.bb_proof.specs.Verdicts.{verdict_text};
+
+use std::fmt;
+
 /// What `verify` finds: the first thing that fails, or that nothing does.
 #[derive(Clone, Copy, Debug, PartialEq, Eq)]
 pub enum ProofVerdict {
@@ -15,4 +20,17 @@ pub enum ProofVerdict {
         /// 0 to 2,097,152.
         place: u32,
     },
+}
+
+impl fmt::Display for ProofVerdict {
+    ghost output = { λ verdict. Some (verdict_text verdict) };
+
+    fn fmt<W: fmt::Write>(&self, f: &mut fmt::Formatter<W>) -> fmt::Result {
+        match self {
+            ProofVerdict::Proved => write!(f, "proved"),
+            ProofVerdict::BadWeight(weight) => write!(f, "bad weight {weight}"),
+            ProofVerdict::BadValue(value) => write!(f, "bad value {value}"),
+            ProofVerdict::BadToken { place } => write!(f, "bad token {place}"),
+        }
+    }
 }
