@@ -7,7 +7,7 @@ use Rattle.bb_shop.specs.Worked.{ft06}
 use Rattle.bb_onemach.specs.Visits.{row_visits, rows_visits, heads}
 use Rattle.bb_onemach.specs.Thresholds.{load_above}
 use Rattle.bb_onemach.specs.Bounds.{bound_by, root_bound}
-use Rattle.bb_onemach.specs.Branching.{soonest, competing, active_children}
+use Rattle.bb_onemach.specs.Branching.{soonest, active_children}
 use Rattle.bb_onemach.specs.Worked.{three_in_turn}
 
 pub in_turn_bound : root_bound three_in_turn ≡ 20
@@ -19,5 +19,5 @@ unfolding state_from dispatched finish joined row_visits rows_visits heads load_
 ft06_bound = refl
 
 pub in_turn_children : active_children three_in_turn [] ≡ 2 ∷ []
-unfolding state_from dispatched children_of jobs_left soonest competing active_children
+unfolding state_from dispatched children_of jobs_left soonest active_children
 in_turn_children = refl

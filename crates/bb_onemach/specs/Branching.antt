@@ -20,14 +20,18 @@ unfoldable pub soonest : (ℕ → Booking) → ℕ → List ℕ → ℕ
 soonest next j [] = j
 soonest next j (k ∷ ks) = soonest next (sooner next j k) ks
 
+-- of these jobs, the one whose next operation ends first, and the first of them on a tie; of none, 0
+abbrev pub critical : (ℕ → Booking) → List ℕ → ℕ
+critical next [] = 0
+critical next (j ∷ js) = soonest next j js
+
 -- job i is job j, or its next operation needs the same machine as that of j and starts before that one ends
 abbrev pub competes : (ℕ → Booking) → ℕ → ℕ → Bool
 competes next j i = nat_eq i j || (nat_eq (next i).machine (next j).machine && nat_lt (next i).start (next j).end)
 
 -- of these jobs, those that compete with the one whose next operation ends first
-unfoldable pub competing : (ℕ → Booking) → List ℕ → List ℕ
-competing next [] = []
-competing next (j ∷ js) = filter (competes next (soonest next j js)) (j ∷ js)
+abbrev pub competing : (ℕ → Booking) → List ℕ → List ℕ
+competing next js = filter (competes next (critical next js)) js
 
 -- when the next operations of the jobs need their machines
 abbrev pub next_in : JobShop → State → ℕ → Booking

@@ -4,4 +4,5 @@ pub mod Thresholds
 pub mod Bounds
 pub mod Branching
 pub mod Worked
+pub mod Working
 pub mod TreeLawsHold

@@ -1,5 +1,4 @@
 pub mod WorkedShops
-pub mod Tabled
 pub mod MachineLoads
 pub mod Kept
 pub mod Rows

@@ -6,6 +6,7 @@ use Rattle.std.proofs.lemmas.List.{get_or-set_same, get_or-set_other, drop_more}
 use Rattle.inst_text.specs.Limits.{total_limit}
 use Rattle.inst_text.specs.declared.shop.Operation.{Operation}
 use Rattle.inst_text.specs.Shop.{JobShop, IsJobShop, row_time, rows_time}
+use Rattle.bb_shop.specs.TreeLawsHold.Times.{row_time-drop, row_time-le}
 use Rattle.bb_shop.specs.declared.prepared_operation.PreparedOperation.{PreparedOperation}
 use Rattle.bb_shop.specs.declared.machine_load.MachineLoad.{MachineLoad}
 use Rattle.bb_shop.specs.Plans.{row_at}
@@ -14,8 +15,7 @@ use Rattle.bb_shop.specs.Bounds.{Load, Idle, Busy, joined, load_of, job_load, ma
 use Rattle.bb_shop.specs.Loading.{unloaded, with_load, load_in, machine_bound_of}
 use Rattle.bb_shop.specs.Tables.{operations_in, HaveTails}
 use Rattle.bb_shop.specs.Working.{AreUpTo, FitTo, left_of, load_at, whole_load}
-use Rattle.bb_shop.proofs.Rows.{row_time-le}
-use Rattle.bb_shop.proofs.Tabled.{row_time-drop, rows_time-drop}
+use Rattle.bb_shop.specs.TreeLawsHold.Tabled.{rows_time-drop}
 
 same_load : (head time tail h t l : ℕ) → head ≡ h → time ≡ t → tail ≡ l → (let a : MachineLoad = record { head = head; time = time; tail = tail } in let b : MachineLoad = record { head = h; time = t; tail = l } in a ≡ b)
 same_load head time tail h t l p q r = cc

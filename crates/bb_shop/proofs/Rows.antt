@@ -4,9 +4,10 @@ use Rattle.std.specs.List.{AllByRecursion}
 use Rattle.std.proofs.lemmas.List.{drop_more, get_or-map, length-map}
 use Rattle.inst_text.specs.Limits.{total_limit}
 use Rattle.inst_text.specs.declared.shop.Operation.{Operation}
-use Rattle.inst_text.specs.Shop.{JobShop, IsJobShop, AreStarts, row_time, rows_time}
+use Rattle.inst_text.specs.Shop.{JobShop, IsJobShop, AreStarts}
 use Rattle.bb_shop.specs.Plans.{step_at, row_at, row_end, rows_end, AreShaped}
 use Rattle.bb_shop.specs.Judging.{times_at, AreTimed}
+use Rattle.bb_shop.specs.TreeLawsHold.Times.{row_time-le}
 use Rattle.bb_shop.specs.TreeLawsHold.States.{row-length}
 use Rattle.bb_shop.specs.TreeLawsHold.Ended.{length-times}
 
@@ -16,19 +17,6 @@ read_row vs items rows i v r are inside here is = is ∙ ap items here ∙ sym (
 
 pub length-rows : {V A : Type 0} (vs : List V) (items : V → List A) (rows : List (List A)) → map items vs ≡ rows → length vs ≡ length rows
 length-rows vs items rows are = sym (length-map vs items) ∙ ap length are
-
--- an operation takes no longer than its row, and a row no longer than all rows
-pub step_time-le : (row : List Operation) (k : ℕ) → (step_at row k).time ≤ row_time row
-step_time-le [] zero = omega arith
-step_time-le [] (suc k) = omega arith
-step_time-le (o ∷ os) zero = omega arith
-step_time-le (o ∷ os) (suc k) = omega (arith, step_time-le os k)
-
-pub row_time-le : (rows : List (List Operation)) (j : ℕ) → row_time (row_at rows j) ≤ rows_time rows
-row_time-le [] zero = omega arith
-row_time-le [] (suc j) = omega arith
-row_time-le (r ∷ rs) zero = omega arith
-row_time-le (r ∷ rs) (suc j) = omega (arith, row_time-le rs j)
 
 -- a start time is within its limit
 pub start-le : (times : List ℕ) (k : ℕ) → AllByRecursion (λ (t : ℕ). t ≤ total_limit) times → get_or times k 0 ≤ total_limit

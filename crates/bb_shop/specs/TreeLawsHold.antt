@@ -14,3 +14,5 @@ pub mod Bounded
 pub mod Lawful
 pub mod Remaining
 pub mod Standing
+pub mod Times
+pub mod Tabled

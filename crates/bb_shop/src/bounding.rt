@@ -43,7 +43,7 @@ fn run_job(ops: &[PreparedOperation], machines: &[u32], from: u32, loads: &mut [
 }
 
 /// The greatest of these numbers, and 0 of none. One pass.
-fn greatest_of(numbers: &[u32]) -> u32
+pub fn greatest_of(numbers: &[u32]) -> u32
     ensures { result ≡ greatest numbers.now }
 {
     let mut greatest = 0;

@@ -20,6 +20,7 @@ mod tests;
 mod verdict;
 
 pub use booking::Booking;
+pub use bounding::greatest_of;
 pub use branching::SomeJobs;
 pub use laws::{
     best_starts_are_early, bounds_are_below, bounds_are_within, makespan_is_greatest_end,

@@ -48,7 +48,7 @@ unfolding load_above
 load_above-nil h t = refl
 
 -- the time of a load
-pub load_time : Load → ℕ
+unfoldable pub load_time : Load → ℕ
 load_time Idle = 0
 load_time (Busy head time tail) = time
 

@@ -1,5 +1,5 @@
 -- The laws of the tree of active schedules, all together.
-use Rattle.std.proofs.Common.{◌≡◌, ℕ, ◌<◌, ◌≤◌, ◌^◌, refl, sym, ap, subst, false, List, [], ◌∷◌, length, arith}
+use Rattle.std.proofs.Common.{◌≡◌, ℕ, ◌<◌, ◌≤◌, ◌^◌, refl, sym, ap, subst, false, List, [], length, arith}
 use Rattle.std.specs.Prelude.{nat_eq, not, filter, Bool}
 use Rattle.std.specs.List.{IsDistinct}
 use Rattle.std.proofs.lemmas.List.Filters.{length-filter_both}
@@ -16,8 +16,8 @@ use Rattle.bb_shop.specs.TreeLawsHold.Children.{children-none, length-children}
 use Rattle.bb_shop.specs.TreeLawsHold.Branches as dispatched
 use Rattle.bb_shop.specs.TreeLawsHold.Least.{attained, least_of_all}
 use Rattle.bb_shop.specs.TreeLawsHold.Reaching.{keeps_cost}
-use Rattle.bb_onemach.specs.Branching.{competes, soonest, next_in, active_children, tree_of, Reaches, meaning_of}
-use Rattle.bb_onemach.specs.TreeLawsHold.Passing.{active-some, active-none, passed_on}
+use Rattle.bb_onemach.specs.Branching.{competes, critical, next_in, active_children, tree_of, Reaches, meaning_of}
+use Rattle.bb_onemach.specs.TreeLawsHold.Passing.{active-are, passed_on}
 use Rattle.bb_onemach.specs.TreeLawsHold.Bounded.{keeps, bounded}
 
 pub reached : (s : JobShop) (plan : List (List ℕ)) → IsFeasible s plan → Reaches s [] (makespan s plan)
@@ -43,26 +43,18 @@ distinct_filter p xs distinct =
     (AllPairs-filter (λ x y. nat_eq x y ≡ false) p xs (λ i j d lt inside. apart_from_distinct nat_eq xs i j d distinct lt inside))
 
 -- the children are some of those of dispatching
-told_apart_at : (s : JobShop) (name ks : List ℕ) → children_of s name ≡ ks → IsDistinct nat_eq (children_of s name) → IsDistinct nat_eq (active_children s name)
-unfolding IsDistinct
-told_apart_at s name [] are distinct = subst (IsDistinct nat_eq) (sym (active-none s name are)) tt
-told_apart_at s name (j ∷ js) are distinct =
-    let next = next_in s (state_of s name) in
-    subst (IsDistinct nat_eq) (sym (active-some s name j js are))
-    (distinct_filter (competes next (soonest next j js)) (j ∷ js) (subst (IsDistinct nat_eq) are distinct))
-
 told_apart : (s : JobShop) (name : List ℕ) → IsJobShop s → IsDistinct nat_eq (active_children s name)
-told_apart s name shop = told_apart_at s name (children_of s name) refl (dispatched.told_apart s name shop)
-
-few_at : (s : JobShop) (name ks : List ℕ) → children_of s name ≡ ks → length (active_children s name) ≤ length ks
-few_at s name [] are = omega (arith, ap (λ (xs : List ℕ). length xs) (active-none s name are))
-few_at s name (j ∷ js) are =
+told_apart s name shop =
     let next = next_in s (state_of s name) in
-    let p = competes next (soonest next j js) in
-    omega (arith, ap (λ (xs : List ℕ). length xs) (active-some s name j js are), length-filter_both p (λ i. not (p i)) (λ _. refl) (j ∷ js))
+    let ks = children_of s name in
+    subst (IsDistinct nat_eq) (sym (active-are s name ks refl)) (distinct_filter (competes next (critical next ks)) ks (dispatched.told_apart s name shop))
 
 few : (s : JobShop) (name : List ℕ) → length (active_children s name) ≤ length s.rows
-few s name = omega (arith, few_at s name (children_of s name) refl, length-children s name)
+few s name =
+    let next = next_in s (state_of s name) in
+    let ks = children_of s name in
+    let p = competes next (critical next ks) in
+    omega (arith, ap (λ (xs : List ℕ). length xs) (active-are s name ks refl), length-filter_both p (λ i. not (p i)) (λ _. refl) ks, length-children s name)
 
 counted : (s : JobShop) → tree_size s < 2 ^ 64 → node_count (tree_of s) ≤ tree_size s
 counted s small = dispatched.few_nodes (tree_of s) (length s.rows) (few s) small
@@ -73,7 +65,7 @@ lawful s shop = record {
   bounded = λ name v r. bounded s name v shop r;
   passed_on = λ name v r some. passed_on s name v shop r some;
   told_apart = λ name. told_apart s name shop;
-  ends = λ name le. active-none s name (children-none s name le);
+  ends = λ name le. active-are s name [] (children-none s name le);
   attained = attained s shop;
   least_of_all = λ plan feasible. least_of_all s plan shop feasible;
   counted = counted s;

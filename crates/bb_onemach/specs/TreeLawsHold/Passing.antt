@@ -83,7 +83,7 @@ pub contains_passing : {X : Type 0} (p : X → Bool) (xs : List X) (x : X) → C
 contains_passing p xs x there pass = contains_at p xs x there.0 there.1 there.2 pass
 
 -- a job competes with itself, and with one on its machine that it starts before the end of
-competes-itself : (next : ℕ → Booking) (c : ℕ) → competes next c c ≡ true
+pub competes-itself : (next : ℕ → Booking) (c : ℕ) → competes next c c ≡ true
 competes-itself next c = grind (arith, nat_tests)
 
 competes-other : (next : ℕ → Booking) (c i : ℕ) → (next i).machine ≡ (next c).machine → (next i).start < (next c).end → competes next c i ≡ true
@@ -163,15 +163,10 @@ soonest_makes_way s name v c r least f late j h op later other machine =
           omega (arith, late, (f.first j op.0 next).start, ap (start_at r.plan j) e)
     ]
 
--- the children of a node that has some
-pub active-some : (s : JobShop) (name : List ℕ) (j : ℕ) (js : List ℕ) → children_of s name ≡ j ∷ js
-    → active_children s name ≡ filter (competes (next_in s (state_of s name)) (soonest (next_in s (state_of s name)) j js)) (j ∷ js)
-unfolding active_children competing
-active-some s name j js are = ap (competing (next_in s (state_of s name))) are
-
-pub active-none : (s : JobShop) (name : List ℕ) → children_of s name ≡ [] → active_children s name ≡ []
-unfolding active_children competing
-active-none s name none = ap (competing (next_in s (state_of s name))) none
+-- the children are those of dispatching that compete
+pub active-are : (s : JobShop) (name ks : List ℕ) → children_of s name ≡ ks → active_children s name ≡ competing (next_in s (state_of s name)) ks
+unfolding active_children
+active-are s name ks are = ap (competing (next_in s (state_of s name))) are
 
 step-grows : (s : JobShop) (st : State) (i j : ℕ) → IsState s st → IsLeft s st i → step_of st j ≤ step_of (dispatched s st i) j
 step-grows s st i j state left =
@@ -195,7 +190,7 @@ pass s name v j js shop r short are =
     λ i l. All-contains (λ n. (next c).end ≤ (next n).end) (j ∷ js) i (All-cons (λ n. (next c).end ≤ (next n).end) j js is.first is.rest) (subst (λ xs. Contains xs i) are (children.all i l)) in
     let f = first_of s r.plan st (NextOn s st (next_of s st c).machine) (next_on_or_not s st (next_of s st c).machine) c (left, refl) (length s.rows) in
     let child : (i : ℕ) → Contains (j ∷ js) i → competes next c i ≡ true → Contains (active_children s name) i =
-    λ i there pass. subst (λ xs. Contains xs i) (sym (active-some s name j js are)) (contains_passing (competes next c) (j ∷ js) i there pass) in
+    λ i there pass. subst (λ xs. Contains xs i) (sym (active-are s name (j ∷ js) are)) (contains_passing (competes next c) (j ∷ js) i there pass) in
     elim (cases_lt (start_at r.plan f.job (step_of st f.job)) (next_end s st c)) [
       | inl soon ↦
           let there : Contains (j ∷ js) f.job = subst (λ xs. Contains xs f.job) are (children.all f.job f.is.0) in
@@ -213,7 +208,7 @@ pub passed_on : (s : JobShop) (name : List ℕ) (v : ℕ) → IsJobShop s → Re
 passed_on s name v shop r some =
     elim (cases_lt (length name) (operations s)) [
       | inl short ↦ pass_at s name v (children_of s name) shop r short refl (children_are_left s name r.order short).some
-      | inr full ↦ absurd (some (active-none s name (children-none s name full)))
+      | inr full ↦ absurd (some (active-are s name [] (children-none s name full)))
     ]
 
 -- Dispatched in any order, a schedule is reached from each node on the way: at its end it is the plan itself.

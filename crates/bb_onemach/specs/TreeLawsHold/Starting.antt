@@ -53,7 +53,7 @@ of_row_sooner m j row k v is = record {
   tail = is.tail;
 }
 
-row_visits-same : (m j k : ℕ) (o : Operation) (os : List Operation) → o.machine ≡ m
+pub row_visits-same : (m j k : ℕ) (o : Operation) (os : List Operation) → o.machine ≡ m
     → (let v : Visit = record { job = j; step = k; time = o.time; tail = row_time os } in row_visits m j k (o ∷ os) ≡ v ∷ row_visits m j (k + 1) os)
 unfolding row_visits
 row_visits-same m j k o os same =
@@ -62,7 +62,7 @@ row_visits-same m j k o os same =
       | inr is ↦ absurd (is.1 same)
     ]
 
-row_visits-other : (m j k : ℕ) (o : Operation) (os : List Operation) → (o.machine ≡ m → ⊥) → row_visits m j k (o ∷ os) ≡ row_visits m j (k + 1) os
+pub row_visits-other : (m j k : ℕ) (o : Operation) (os : List Operation) → (o.machine ≡ m → ⊥) → row_visits m j k (o ∷ os) ≡ row_visits m j (k + 1) os
 unfolding row_visits
 row_visits-other m j k o os other =
     elim (eqb_tells o.machine m) [
@@ -70,7 +70,7 @@ row_visits-other m j k o os other =
       | inr is ↦ cond-false (nat_eq o.machine m) (record { job = j; step = k; time = o.time; tail = row_time os } ∷ row_visits m j (k + 1) os) (row_visits m j (k + 1) os) is.0
     ]
 
-row_visits-nil : (m j k : ℕ) → row_visits m j k [] ≡ []
+pub row_visits-nil : (m j k : ℕ) → row_visits m j k [] ≡ []
 unfolding row_visits
 row_visits-nil m j k = refl
 
@@ -136,11 +136,11 @@ pairs-append R (x ∷ xs) ys one other across =
     AllPairs-cons R x (xs ++ ys) (All-append (R x) xs ys (pairs-first R x xs one) (All-head (λ z. All (R z) ys) x xs across))
     (pairs-append R xs ys (pairs-rest R x xs one) other (All-tail (λ z. All (R z) ys) x xs across))
 
-rows_visits-cons : (m j : ℕ) (r : List Operation) (rs : List (List Operation)) → rows_visits m j (r ∷ rs) ≡ row_visits m j 0 r ++ rows_visits m (j + 1) rs
+pub rows_visits-cons : (m j : ℕ) (r : List Operation) (rs : List (List Operation)) → rows_visits m j (r ∷ rs) ≡ row_visits m j 0 r ++ rows_visits m (j + 1) rs
 unfolding rows_visits
 rows_visits-cons m j r rs = refl
 
-rows_visits-nil : (m j : ℕ) → rows_visits m j [] ≡ []
+pub rows_visits-nil : (m j : ℕ) → rows_visits m j [] ≡ []
 unfolding rows_visits
 rows_visits-nil m j = refl
 

@@ -10,7 +10,7 @@ use Rattle.inst_text.specs.declared.shop.Operation.{Operation}
 use Rattle.inst_text.specs.Limits.{job_limit, machine_limit}
 use Rattle.inst_text.specs.Shop.{JobShop, IsJobShop, operations}
 use Rattle.bb_shop.specs.Plans.{row_at, operation_at, makespan, IsFeasible}
-use Rattle.bb_shop.specs.Dispatching.{State, opened, number_in, starts_of, step_of, next_of, next_start, next_end, state_of, IsLeft, IsOrder}
+use Rattle.bb_shop.specs.Dispatching.{State, number_in, starts_of, step_of, next_of, next_start, next_end, state_of, IsLeft, IsOrder}
 use Rattle.bb_shop.specs.Bounds.{greatest, machine_bound, finish, job_load, each_from, all_joined, bound_at, bound_of, root_bound}
 use Rattle.bb_shop.specs.Judging.{booked}
 use Rattle.bb_shop.specs.Branching.{jobs_left, children_of, Reaches, Node, Stands}
@@ -76,15 +76,24 @@ root_fits s n m shop jobs machines =
       machines_ready = record { each = λ k. omega (arith, ap (λ (xs : List ℕ). number_in xs k) machine_list, get_or-same {X = ℕ} m k 0) };
     }
 
+-- they are the lists of the state that dispatches nothing
+pub root_lists : (s : JobShop) (n m : ℕ) (f : List ℕ → List ℕ → List ℕ → ℕ) → IsJobShop s → n ≡ length s.rows → m ≡ s.machines
+    → f (take n (replicate {A = ℕ} (job_limit + machine_limit) 0)) (take n (replicate {A = ℕ} (job_limit + machine_limit) 0)) (take m (replicate {A = ℕ} (job_limit + machine_limit) 0))
+    ≡ f (map length (state_of s []).starts) (state_of s []).jobs (state_of s []).machines
+root_lists s n m f shop jobs machines =
+    let none = replicate {A = ℕ} (job_limit + machine_limit) 0 in
+    let count = length s.rows in
+    let job_list : take n none ≡ replicate {A = ℕ} count 0 = take-replicate n (job_limit + machine_limit) 0 (omega (arith, jobs, shop.jobs)) ∙ ap (λ k. replicate {A = ℕ} k 0) jobs in
+    let machine_list : take m none ≡ replicate {A = ℕ} s.machines 0 =
+    take-replicate m (job_limit + machine_limit) 0 (omega (arith, machines, shop.machines)) ∙ ap (λ k. replicate {A = ℕ} k 0) machines in
+    ap (λ xs. f xs xs (take m none)) job_list
+    ∙ ap (f (replicate {A = ℕ} count 0) (replicate {A = ℕ} count 0)) machine_list
+    ∙ ap (λ xs. f xs (replicate {A = ℕ} count 0) (replicate {A = ℕ} s.machines 0)) (sym (map-replicate count))
+    ∙ ap (λ (st : State). f (map length st.starts) st.jobs st.machines) (sym (state_of-nil s))
+
 pub root_bound-is : (s : JobShop) (n m : ℕ) → IsJobShop s → n ≡ length s.rows → m ≡ s.machines
     → bound_by s (take n (replicate {A = ℕ} (job_limit + machine_limit) 0)) (take n (replicate {A = ℕ} (job_limit + machine_limit) 0)) (take m (replicate {A = ℕ} (job_limit + machine_limit) 0)) ≡ root_bound s
-root_bound-is s n m shop jobs machines =
-    let job_list : take n (replicate {A = ℕ} (job_limit + machine_limit) 0) ≡ replicate {A = ℕ} (length s.rows) 0 = take-replicate n (job_limit + machine_limit) 0 (omega (arith, jobs, shop.jobs)) ∙ ap (λ k. replicate {A = ℕ} k 0) jobs in
-    let machine_list : take m (replicate {A = ℕ} (job_limit + machine_limit) 0) ≡ replicate {A = ℕ} s.machines 0 = take-replicate m (job_limit + machine_limit) 0 (omega (arith, machines, shop.machines)) ∙ ap (λ k. replicate {A = ℕ} k 0) machines in
-    ap (λ xs. bound_by s xs xs (take m (replicate {A = ℕ} (job_limit + machine_limit) 0))) job_list
-    ∙ ap (bound_by s (replicate {A = ℕ} (length s.rows) 0) (replicate {A = ℕ} (length s.rows) 0)) machine_list
-    ∙ ap (λ xs. bound_by s xs (replicate {A = ℕ} (length s.rows) 0) (replicate {A = ℕ} s.machines 0)) (sym (map-replicate (length s.rows)))
-    ∙ bound_by-is s (opened s) ∙ ap (bound_at s) (sym (state_of-nil s))
+root_bound-is s n m shop jobs machines = root_lists s n m (bound_by s) shop jobs machines ∙ bound_by-is s (state_of s [])
 
 pub root_stands : (s : JobShop) (node : Node) → node ≡ record { order = []; steps = replicate (length s.rows) 0; jobs = replicate (length s.rows) 0; machines = replicate s.machines 0 } → Stands s node []
 root_stands s node is = record {

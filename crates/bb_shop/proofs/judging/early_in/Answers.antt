@@ -1,5 +1,6 @@
 use Rattle.std.proofs.Common.{arith}
-use Rattle.bb_shop.proofs.Rows.{step_time-le, start-le}
+use Rattle.bb_shop.specs.TreeLawsHold.Times.{step_time-le}
+use Rattle.bb_shop.proofs.Rows.{start-le}
 use Rattle.bb_shop.proofs.judging.early_in.Goals as goal
 
 pub overflow_add-ready : goal.overflow_add-ready

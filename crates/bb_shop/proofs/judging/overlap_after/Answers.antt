@@ -1,6 +1,7 @@
 use Rattle.std.proofs.Common.{◌<◌, length, ap, arith}
 use Rattle.inst_text.specs.Shop.{row_time}
-use Rattle.bb_shop.proofs.Rows.{length-rows, step_time-le, row_time-le, are_timed}
+use Rattle.bb_shop.specs.TreeLawsHold.Times.{row_time-le, step_time-le}
+use Rattle.bb_shop.proofs.Rows.{length-rows, are_timed}
 use Rattle.bb_shop.proofs.judging.overlap_after.Goals as goal
 
 pub new-booking-requires-clause-time : goal.new-booking-requires-clause-time

@@ -2,9 +2,10 @@ use Rattle.std.proofs.Common.{◌≡◌, ◌<◌, length, map, rules, ap, arith}
 use Rattle.std.proofs.lemmas.List.{length_push}
 use Rattle.std.proofs.lemmas.Slice.Zip.{zip_turn, zip_end}
 use Rattle.inst_text.specs.Shop.{IsJobShop, AreStarts, row_time}
+use Rattle.bb_shop.specs.TreeLawsHold.Times.{row_time-le}
 use Rattle.bb_shop.specs.Plans.{row_at, row_end}
 use Rattle.bb_shop.specs.Judging.{times_at}
-use Rattle.bb_shop.proofs.Rows.{read_row, length-rows, row_time-le, starts-early, rows_end-more, rows_end-past}
+use Rattle.bb_shop.proofs.Rows.{read_row, length-rows, starts-early, rows_end-more, rows_end-past}
 use Rattle.bb_shop.proofs.makespan.makespan_of.Goals as goal
 
 pub row_end-requires-clause-times : goal.row_end-requires-clause-times

@@ -1,7 +1,8 @@
 use Rattle.std.proofs.Common.{length, rules, ap, arith}
 use Rattle.std.proofs.lemmas.Slice.Zip.{zip_turn, zip_end}
 use Rattle.inst_text.specs.declared.shop.Operation.{Operation}
-use Rattle.bb_shop.proofs.Rows.{step_time-le, start-le, row_end-past}
+use Rattle.bb_shop.specs.TreeLawsHold.Times.{step_time-le}
+use Rattle.bb_shop.proofs.Rows.{start-le, row_end-past}
 use Rattle.bb_shop.proofs.makespan.row_end.Goals as goal
 
 pub overflow_add-start : goal.overflow_add-start

@@ -3,9 +3,10 @@ use Rattle.std.specs.Global.{Vec}
 use Rattle.std.proofs.lemmas.List.{at_drop_more, length-map}
 use Rattle.inst_text.specs.declared.shop.Operation.{Operation}
 use Rattle.inst_text.specs.Shop.{row_time}
+use Rattle.bb_shop.specs.TreeLawsHold.Times.{row_time-le}
 use Rattle.bb_shop.specs.Tables.{prepared_row, prepared_rows}
-use Rattle.bb_shop.proofs.Rows.{read_row, row_time-le}
-use Rattle.bb_shop.proofs.Tabled.{prepared_rows-more}
+use Rattle.bb_shop.proofs.Rows.{read_row}
+use Rattle.bb_shop.specs.TreeLawsHold.Tabled.{prepared_rows-more}
 use Rattle.bb_shop.proofs.prepared_operation.operation_table.Goals as goal
 
 pub add_row-requires : goal.add_row-requires

@@ -2,14 +2,14 @@ use Rattle.std.proofs.Common.{◌≡◌, suc, ◌+◌, ◌-◌, ◌<◌, length,
 use Rattle.std.specs.Prelude.{max}
 use Rattle.inst_text.specs.declared.shop.Operation.{Operation}
 use Rattle.inst_text.specs.Shop.{row_time, rows_time}
+use Rattle.bb_shop.specs.TreeLawsHold.Times.{row_time-drop, row_time-le}
 use Rattle.bb_shop.specs.declared.machine_load.MachineLoad.{MachineLoad}
 use Rattle.bb_shop.specs.Plans.{row_at}
 use Rattle.bb_shop.specs.Bounds.{finish, job_load, greatest, each_from, all_joined}
 use Rattle.bb_shop.specs.Loading.{unloaded, with_load, load_in}
 use Rattle.bb_shop.specs.Tables.{operations_in}
 use Rattle.bb_shop.specs.Working.{left_of, finish_at, load_at, whole_load}
-use Rattle.bb_shop.proofs.Rows.{row_time-le}
-use Rattle.bb_shop.proofs.Tabled.{HaveTails-prepared_row, operations_in-prepared_row, all-prepared_row, all-drop, named-row, row_time-drop}
+use Rattle.bb_shop.specs.TreeLawsHold.Tabled.{HaveTails-prepared_row, operations_in-prepared_row, all-prepared_row, all-drop, named-row}
 use Rattle.bb_shop.proofs.MachineLoads.{time-with_load, IsSmall-from, time-small, greatest-step, load-step}
 use Rattle.bb_shop.proofs.shop.Shop.last_finish.Goals as goal
 

@@ -1,7 +1,7 @@
 use Rattle.std.proofs.Common.{get_or, ap, arith}
 use Rattle.inst_text.specs.declared.shop.Operation.{Operation}
+use Rattle.bb_shop.specs.TreeLawsHold.Times.{row_time-le, step_time-le}
 use Rattle.bb_shop.specs.Plans.{row_at}
-use Rattle.bb_shop.proofs.Rows.{step_time-le, row_time-le}
 use Rattle.bb_shop.proofs.shop.Shop.next.Goals as goal
 
 pub new-requires-clause-time : goal.new-requires-clause-time

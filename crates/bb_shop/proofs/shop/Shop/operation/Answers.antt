@@ -2,7 +2,7 @@ use Rattle.std.proofs.Common.{◌≡◌, ◌*◌, ◌<◌, length, sym, ap, ◌�
 use Rattle.inst_text.specs.Shop.{JobShop}
 use Rattle.bb_shop.specs.declared.prepared_operation.PreparedOperation.{PreparedOperation}
 use Rattle.bb_shop.specs.Plans.{operation_at}
-use Rattle.bb_shop.proofs.Tabled.{length-table, operation_is, job-end}
+use Rattle.bb_shop.specs.TreeLawsHold.Tabled.{length-table, operation_is, job-end}
 use Rattle.bb_shop.proofs.shop.Shop.operation.Goals as goal
 
 pub index-requires : goal.index-requires

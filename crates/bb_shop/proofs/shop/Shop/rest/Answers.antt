@@ -3,7 +3,7 @@ use Rattle.std.specs.Prelude.{min}
 use Rattle.inst_text.specs.Shop.{JobShop}
 use Rattle.bb_shop.specs.Plans.{row_at}
 use Rattle.bb_shop.specs.Tables.{prepared_row}
-use Rattle.bb_shop.proofs.Tabled.{length-table, part_is, job-end}
+use Rattle.bb_shop.specs.TreeLawsHold.Tabled.{length-table, part_is, job-end}
 use Rattle.bb_shop.proofs.shop.Shop.rest.Goals as goal
 
 pub slice_bounds-result-end : goal.slice_bounds-result-end

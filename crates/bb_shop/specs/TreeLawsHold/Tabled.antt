@@ -103,12 +103,7 @@ operation_is s table j n k d is lt step first =
     ∙ get_or_append_left (prepared_row row) (job.0) d k (omega (arith, length-prepared_row row, long)))
     ∙ operation_of-row row k d (record { machine = 0; time = 0 }) (omega (arith, long))
 
--- times of rows and of parts of rows
-pub row_time-drop : (k : ℕ) (row : List Operation) → row_time (drop k row) ≤ row_time row
-row_time-drop zero row = omega arith
-row_time-drop (suc k) [] = omega arith
-row_time-drop (suc k) (o ∷ os) = omega (arith, row_time-drop k os)
-
+-- the times of parts of several rows
 rows_time-drop-nil : (j : ℕ) → rows_time (drop j []) ≡ 0
 rows_time-drop-nil zero = refl
 rows_time-drop-nil (suc j) = refl
