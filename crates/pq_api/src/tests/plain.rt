@@ -1,12 +1,41 @@
 //! The plain queue under the checks of every queue.
-use crate::checks::{against_a_list, one_seat_rows, sorted};
+use crate::checks::{CheckFault, against_a_list, answers_are, one_seat_rows, sorted};
 use crate::{Open, PlainQueue};
+use pq_model::{Act, Reply};
 use pq_words::Entry;
 
 #[test]
 fn rows_are_answered(rt: HostRuntime) {
     let checked = one_seat_rows::<HostRuntime, PlainQueue>(&rt, rt.alloc());
     assert_eq!(rt; checked, Ok(()));
+}
+
+// Wrong wants are found: another reply, a reply too few, and entries that are not left or left besides.
+#[test]
+fn the_checks_find_what_is_amiss(rt: HostRuntime) {
+    let five = Entry { key: 5, id: 1 };
+    let acts = [Act::Insert(five), Act::RemoveBelow(5)];
+    let right = [Reply::Done, Reply::Above];
+    let wrong = [Reply::Done, Reply::Empty];
+    let rows: [(&[Reply], &[Entry], Result<(), CheckFault>); 5] = [
+        (&right, &[five], Ok(())),
+        (&wrong, &[five], Err(CheckFault::Reply { call: 1 })),
+        (&[], &[five], Err(CheckFault::Reply { call: 0 })),
+        (&right, &[], Err(CheckFault::Left)),
+        (&right, &[five, five], Err(CheckFault::Left)),
+    ];
+    for (replies, left, wanted) in rows {
+        let checked = answers_are::<HostRuntime, PlainQueue>(
+            &rt,
+            rt.alloc(),
+            Open,
+            4,
+            &acts,
+            replies,
+            left,
+        );
+        assert_eq!(rt; checked, wanted);
+    }
 }
 
 #[test]
