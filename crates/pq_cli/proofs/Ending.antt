@@ -23,6 +23,7 @@ not_answered (refusals.NodeLimit asked limit) h = h
 not_answered (refusals.Full place) h = h
 not_answered refusals.ReadFault h = h
 not_answered refusals.NoMemory h = h
+not_answered refusals.ProofLimit h = h
 
 whole_end : {I O : Type 0} (work : Work) (status : Status) (input : Change I) (output : Change O) →
     IsAnswered status → Ends work status input output → IsWhole work status input output
@@ -87,12 +88,15 @@ no_memory work input (refusals.BadInput fault) bytes told reads enough still h =
     absurd (cc (same, faulty, reads))
 no_memory work input (refusals.NodeLimit asked limit) bytes told reads enough still h =
     let same = left_is (input.told input.old) h.bytes bytes told h.taken.were_left in
-    absurd (not_limited work.search bytes asked limit enough (rw same at h.holds.1))
+    absurd (not_limited work.search bytes asked limit enough.for_search (rw same at h.holds.1))
 no_memory work input (refusals.Full place) bytes told reads enough still h =
     let same = left_is (input.told input.old) h.bytes bytes told h.taken.were_left in
-    absurd (not_filled work.search bytes place enough (rw same at h.holds.1))
+    absurd (not_filled work.search bytes place enough.for_search (rw same at h.holds.1))
 no_memory work input refusals.ReadFault bytes told reads enough still h = absurd (still h)
 no_memory work input refusals.NoMemory bytes told reads enough still h = refl
+no_memory work input refusals.ProofLimit bytes told reads enough still h =
+    let same = left_is (input.told input.old) h.bytes bytes told h.taken.were_left in
+    absurd (enough.for_proof (rw same at h.holds))
 
 -- the same of all three ways in which the work ends
 answered_or_no_memory : {I O : Type 0} (work : Work) (status : Status) (input : Change I) (output : Change O) (bytes : List ℕ) →

@@ -51,3 +51,4 @@ work_stops work bytes input (refusals.NodeLimit asked limit) taken within h = re
 work_stops work bytes input (refusals.Full place) taken within h = record { bytes = bytes; taken = taken; holds = h }
 work_stops work bytes input refusals.ReadFault taken within h = absurd h
 work_stops work bytes input refusals.NoMemory taken within h = tt
+work_stops work bytes input refusals.ProofLimit taken within h = record { bytes = bytes; taken = taken; holds = h }

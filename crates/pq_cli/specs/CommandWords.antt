@@ -7,8 +7,9 @@ use Rattle.pq_io.specs.Reading.{is_between}
 use Rattle.pq_model.specs.Limits.{max_capacity}
 use Rattle.bb_pool.specs.Limits.{max_nodes}
 use Rattle.pq_cli.specs.declared.command.Kind.{Kind}
+use Rattle.pq_cli.specs.declared.command.Kind.TheVariants.{Knapsack, Shop}
 use Rattle.pq_cli.specs.declared.command.Command.{Command}
-use Rattle.pq_cli.specs.declared.command.Command.TheVariants.{Solve, Bound, Check, Trace, Audit}
+use Rattle.pq_cli.specs.declared.command.Command.TheVariants.{Solve, Bound, Check, Prove, Verify, Trace, Audit}
 use Rattle.pq_cli.specs.declared.commands.task.Task.{Task}
 use Rattle.pq_cli.specs.declared.commands.task.Task.TheVariants as tasks
 use Rattle.pq_cli.specs.declared.words.reading.WordsRefusal.{WordsRefusal}
@@ -55,6 +56,23 @@ check_from said = do
   kind ← kind_alone said
   Some (Check kind)
 
+-- the same search, of a knapsack and for a proof
+abbrev pub proof_search : Command → Option Command
+proof_search (Solve Knapsack queue workers nodes capacity) = Some (Prove queue workers nodes capacity)
+proof_search _ = None
+
+-- a knapsack, and what a solve has
+abbrev pub prove_from : Settings → Option Command
+prove_from said = solve_from said >>= proof_search
+
+-- a knapsack, and no option
+abbrev pub verify_of : Kind → Option Command
+verify_of Knapsack = Some Verify
+verify_of Shop = None
+
+unfoldable pub verify_from : Settings → Option Command
+verify_from said = kind_alone said >>= verify_of
+
 -- how many entries a traced queue takes where it is not said
 abbrev pub default_capacity : ℕ
 default_capacity = 1024
@@ -80,6 +98,8 @@ command_of (name ∷ words) =
     if bytes_eq name (codes "solve") then settings_from nothing words >>= solve_from
     else if bytes_eq name (codes "bound") then settings_from nothing words >>= bound_from
     else if bytes_eq name (codes "check") then settings_from nothing words >>= check_from
+    else if bytes_eq name (codes "prove") then settings_from nothing words >>= prove_from
+    else if bytes_eq name (codes "verify") then settings_from nothing words >>= verify_from
     else if bytes_eq name (codes "trace") then settings_from nothing words >>= trace_from
     else if bytes_eq name (codes "audit") then settings_from nothing words >>= audit_from
     else None
@@ -105,4 +125,6 @@ HasLimits (Solve kind queue workers nodes capacity) = AreLimits nodes capacity
 HasLimits (Bound kind) = Unit {0}
 HasLimits (Check kind) = Unit {0}
 HasLimits (Trace queue capacity) = (1 ≤ capacity) × (capacity ≤ max_capacity)
+HasLimits (Prove queue workers nodes capacity) = AreLimits nodes capacity
+HasLimits Verify = Unit {0}
 HasLimits Audit = Unit {0}

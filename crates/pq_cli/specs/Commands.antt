@@ -2,7 +2,10 @@
 use Rattle.std.specs.Prelude.{ℕ, ◌≡◌, ◌≤◌, List, Result, Ok, Err, Some, None}
 use Rattle.pq_io.specs.declared.text.fault.BadInput.{BadInput}
 use Rattle.pq_tape.specs.HistoryReading.{history_of}
+use Rattle.inst_text.specs.Knapsack.{knapsack_of}
 use Rattle.inst_text.specs.Script.{script_of}
+use Rattle.bb_proof.specs.Texts.{proof_of}
+use Rattle.bb_knap.specs.Branching as knapsacks
 use Rattle.bb_problem.specs.Meaning.{Meaning}
 use Rattle.bb_problem.specs.Tree.{needed}
 use Rattle.pq_cli.specs.declared.command.Command.{Command}
@@ -13,6 +16,7 @@ use Rattle.pq_cli.specs.declared.status.Status.{Status}
 use Rattle.pq_cli.specs.declared.status.Status.TheVariants as statuses
 use Rattle.pq_cli.specs.Auditing.{IsAudited}
 use Rattle.pq_cli.specs.Tracing.{IsTraced}
+use Rattle.pq_cli.specs.Proving.{IsProved, IsProofTooLong, IsVerified}
 use Rattle.pq_cli.specs.Using.{Texts, IsSolved, IsRootBound, IsChecked}
 use Rattle.pq_cli.specs.Problems.{Used, used}
 use Rattle.pq_cli.specs.Work.{Work, Search, fault_in}
@@ -32,6 +36,7 @@ solving meaning texts nodes capacity = record {
     capacity = capacity;
     needs = λ bytes. needed_for meaning (texts.instance_of bytes);
   });
+  IsTooLong = λ bytes. ⊥;
 }
 
 -- the root's bound
@@ -40,6 +45,7 @@ bounding texts = record {
   first_fault = λ bytes. fault_in (texts.instance_of bytes);
   IsAnswer = λ bytes status text. (status ≡ statuses.Ok) × IsRootBound texts bytes text;
   search = None;
+  IsTooLong = λ bytes. ⊥;
 }
 
 -- the verdict on a plan behind its instance
@@ -48,6 +54,7 @@ checking texts = record {
   first_fault = λ bytes. fault_in (texts.plan_of bytes);
   IsAnswer = IsChecked texts;
   search = None;
+  IsTooLong = λ bytes. ⊥;
 }
 
 -- the verdict on a history
@@ -56,6 +63,29 @@ auditing = record {
   first_fault = λ bytes. fault_in (history_of bytes);
   IsAnswer = IsAudited;
   search = None;
+  IsTooLong = λ bytes. ⊥;
+}
+
+-- a best choice of a knapsack, and the proof that no choice has more
+abbrev pub proving : ℕ → ℕ → Work
+proving nodes capacity = record {
+  first_fault = λ bytes. fault_in (knapsack_of bytes);
+  IsAnswer = λ bytes status text. (status ≡ statuses.Ok) × IsProved nodes capacity bytes text;
+  search = Some (record {
+    nodes = nodes;
+    capacity = capacity;
+    needs = λ bytes. needed_for knapsacks.meaning_of (knapsack_of bytes);
+  });
+  IsTooLong = IsProofTooLong;
+}
+
+-- the verdict on such a proof
+abbrev pub verifying : Work
+verifying = record {
+  first_fault = λ bytes. fault_in (proof_of bytes);
+  IsAnswer = IsVerified;
+  search = None;
+  IsTooLong = λ bytes. ⊥;
 }
 
 -- the history of a script
@@ -64,6 +94,7 @@ tracing capacity = record {
   first_fault = λ bytes. fault_in (script_of 1 bytes);
   IsAnswer = λ bytes status text. (status ≡ statuses.Ok) × IsTraced capacity bytes text;
   search = None;
+  IsTooLong = λ bytes. ⊥;
 }
 
 -- what is to be done with a problem
@@ -81,4 +112,6 @@ work_of (commands.Solve kind queue workers nodes capacity) = used_work (used kin
 work_of (commands.Bound kind) = used_work (used kind) Bound
 work_of (commands.Check kind) = used_work (used kind) Check
 work_of (commands.Trace queue capacity) = tracing capacity
+work_of (commands.Prove queue workers nodes capacity) = proving nodes capacity
+work_of commands.Verify = verifying
 work_of commands.Audit = auditing

@@ -10,6 +10,7 @@ pub mod Problems
 pub mod Work
 pub mod Auditing
 pub mod Tracing
+pub mod Proving
 pub mod Commands
 pub mod Streams
 pub mod Refusals

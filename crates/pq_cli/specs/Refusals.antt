@@ -1,9 +1,11 @@
 -- What becomes of a refusal on its way up.
-use Rattle.std.specs.Prelude.{Result, Ok, Err}
+use Rattle.std.specs.Prelude.{List, Bool, Result, Ok, Err}
 use Rattle.pq_io.specs.declared.text.fault.ReadRefusal.{ReadRefusal}
 use Rattle.pq_io.specs.declared.text.fault.ReadRefusal.TheVariants as reads
 use Rattle.pq_io.specs.declared.input.InputRefusal.{InputRefusal}
 use Rattle.pq_io.specs.declared.input.InputRefusal.TheVariants as inputs
+use Rattle.bb_proof.specs.declared.made.Made.{Made}
+use Rattle.bb_proof.specs.declared.made.Made.TheVariants as made
 use Rattle.bb_pool.specs.declared.outcome.Outcome.{Outcome}
 use Rattle.bb_pool.specs.declared.outcome.Outcome.TheVariants as outcomes
 use Rattle.pq_cli.specs.declared.refusal.Refusal.{Refusal}
@@ -31,6 +33,12 @@ plan_of (outcomes.NodeLimit asked limit) = Err (refusals.NodeLimit asked limit)
 plan_of (outcomes.Full place) = Err (refusals.Full place)
 plan_of outcomes.NoMemory = Err refusals.NoMemory
 
+-- of making a proof: the proof stays the proof
+abbrev pub made_of : Made → Result (List Bool) Refusal
+made_of (made.Proof tokens) = Ok tokens
+made_of made.TooLong = Err refusals.ProofLimit
+made_of made.NoMemory = Err refusals.NoMemory
+
 -- of the words
 abbrev pub of_words : WordsRefusal → Status
 of_words words.BadWords = statuses.BadWords
@@ -43,3 +51,4 @@ status_of (refusals.NodeLimit asked limit) = statuses.NodeLimit asked limit
 status_of (refusals.Full place) = statuses.Full place
 status_of refusals.ReadFault = statuses.ReadFault
 status_of refusals.NoMemory = statuses.NoMemory
+status_of refusals.ProofLimit = statuses.ProofLimit

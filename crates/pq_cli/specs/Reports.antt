@@ -37,3 +37,4 @@ fault_text (statuses.Full place) = full_text place
 fault_text statuses.ReadFault = codes "read fault\n"
 fault_text statuses.WriteFault = codes "write fault\n"
 fault_text statuses.NoMemory = codes "no memory\n"
+fault_text statuses.ProofLimit = codes "proof limit\n"

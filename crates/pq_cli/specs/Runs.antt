@@ -44,6 +44,7 @@ Stops work input (refusals.NodeLimit asked limit) = HeldBytes (λ bytes. IsLimit
 Stops work input (refusals.Full place) = HeldBytes (λ bytes. IsFilled work bytes place) input
 Stops work input refusals.ReadFault = IsFailed input
 Stops work input refusals.NoMemory = Unit {0}
+Stops work input refusals.ProofLimit = HeldBytes work.IsTooLong input
 
 -- The whole answer was written.
 pub record IsWhole {I O : Type 0} (work : Work) (status : Status) (input : Change I) (output : Change O) : Type 0 where

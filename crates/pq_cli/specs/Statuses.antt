@@ -13,6 +13,7 @@ code_of (statuses.Full place) = 5
 code_of statuses.ReadFault = 6
 code_of statuses.WriteFault = 7
 code_of statuses.NoMemory = 8
+code_of statuses.ProofLimit = 9
 
 -- the statuses that come with an answer
 abbrev pub IsAnswered : Status → Type 0

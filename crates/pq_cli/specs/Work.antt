@@ -29,6 +29,8 @@ pub record Work : Type 1 where
   pub IsAnswer : List ℕ → Status → List ℕ → Type 0
   -- the search that it makes, if any
   pub search : Option Search
+  -- the proof that it would write of its answer to the bytes has more tokens than a proof may have
+  pub IsTooLong : List ℕ → Type 0
 
 -- the first fault of an input; a longer one has no reading, whatever the command
 abbrev pub fault_of : Work → List ℕ → Option BadInput
@@ -49,10 +51,11 @@ abbrev pub IsFilled : Work → List ℕ → ℕ → Type 0
 IsFilled work bytes place = (work.first_fault bytes ≡ None)
     × MatchOption work.search ⊥ (λ s. IsFullAt (s.needs bytes) s.nodes s.capacity place)
 
--- The node limit and the capacity are enough for what the search has to make.
-abbrev pub HasEnough : Work → List ℕ → Type 0
-HasEnough work bytes = IfSome work.search (λ s.
-    (s.needs bytes ≤ s.nodes) × (min s.nodes (s.needs bytes) ≤ s.capacity))
+-- The node limit and the capacity are enough for what the search has to make, and the proof is not too long.
+pub record HasEnough (work : Work) (bytes : List ℕ) : Type 0 where
+  pub for_search : IfSome work.search (λ s.
+      (s.needs bytes ≤ s.nodes) × (min s.nodes (s.needs bytes) ≤ s.capacity))
+  pub for_proof : ¬ work.IsTooLong bytes
 
 -- The cause of each refusal of the work on these bytes.
 abbrev pub Explains : Work → List ℕ → Refusal → Type 0
@@ -61,6 +64,7 @@ Explains work bytes (refusals.NodeLimit asked limit) = IsLimited work bytes aske
 Explains work bytes (refusals.Full place) = IsFilled work bytes place
 Explains work bytes refusals.ReadFault = ⊥
 Explains work bytes refusals.NoMemory = Unit {0}
+Explains work bytes refusals.ProofLimit = work.IsTooLong bytes
 
 -- What a search under these limits came to: a best plan, or a refusal and its cause.
 abbrev pub IsPlanned : {N P : Type 0} → Meaning N P → ℕ → ℕ → Result P Refusal → Type 0
@@ -70,6 +74,7 @@ IsPlanned m nodes capacity (Err (refusals.NodeLimit asked limit)) = IsOverLimit 
 IsPlanned m nodes capacity (Err (refusals.Full place)) = IsFullAt (needed m.tree m.least) nodes capacity place
 IsPlanned m nodes capacity (Err refusals.ReadFault) = ⊥
 IsPlanned m nodes capacity (Err refusals.NoMemory) = Unit {0}
+IsPlanned m nodes capacity (Err refusals.ProofLimit) = ⊥
 
 -- What the work on these bytes came to: its answer, or a refusal and its cause.
 abbrev pub Meets : Work → List ℕ → Result Answer Refusal → Type 0

@@ -41,6 +41,16 @@ pub enum Command {
         /// How many entries the queue takes: 1 to 1,048,576.
         capacity: u32,
     },
+    /// Reads a knapsack, and writes a feasible choice that no feasible choice betters, with a proof that none does.
+    Prove {
+        queue: Which,
+        /// As in `Solve`.
+        workers: u32,
+        nodes: u32,
+        capacity: u32,
+    },
+    /// Reads a knapsack, a choice and a proof, and says whether the choice is proved to be a best one.
+    Verify,
     /// Reads a history, and says whether a bounded priority multiset could have answered so.
     Audit,
 }

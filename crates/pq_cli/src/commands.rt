@@ -14,18 +14,22 @@ ghost use Rattle.pq_cli.specs.Work.{Meets};
 mod audit;
 mod bound;
 mod check;
+mod prove;
 mod solve;
 mod task;
 mod trace;
+mod verify;
 
 use crate::answer::Answer;
 use crate::command::{Command, Kind};
 use crate::commands::audit::audit;
 use crate::commands::bound::bound;
 use crate::commands::check::check;
+use crate::commands::prove::prove;
 use crate::commands::solve::solve;
 use crate::commands::task::Task;
 use crate::commands::trace::trace;
+use crate::commands::verify::verify;
 use crate::problem::UsedProblem;
 use crate::refusal::Refusal;
 use bb_knap::Knapsack;
@@ -60,6 +64,12 @@ fn respond_to(alloc: Global, command: Command, bytes: &[u8]) -> Result<Answer, R
         } => on_problem(alloc, kind, Task::Solve { nodes, capacity }, bytes),
         Command::Bound { kind } => on_problem(alloc, kind, Task::Bound, bytes),
         Command::Check { kind } => on_problem(alloc, kind, Task::Check, bytes),
+        Command::Prove {
+            nodes,
+            capacity,
+            ..
+        } => prove(alloc, bytes, nodes, capacity),
+        Command::Verify => verify(alloc, bytes),
         Command::Trace { capacity, .. } => trace(alloc, bytes, capacity),
         Command::Audit => audit(alloc, bytes),
     }

@@ -6,9 +6,11 @@ ghost use Rattle.pq_model.specs.declared.marks.Mark.{Mark};
 ghost use Rattle.pq_cli.specs.declared.command.Kind.{Kind};
 ghost use Rattle.pq_cli.specs.declared.command.Kind.TheVariants as kinds;
 ghost use Rattle.pq_cli.specs.Problems.{used, IsCheckable};
+ghost use Rattle.pq_cli.specs.Proving.{AreVerified};
 ghost use Rattle.pq_cli.specs.Tracing.{IsTraceOf};
 
-use bb_knap::value_and_cost_are_all;
+use bb_knap::{best_is_cheapest, value_and_cost_are_all};
+use bb_proof::{accepted_have_no_bad_token, canonical_is_accepted, proofs_are_read_behind};
 use bb_shop::best_starts_are_early;
 use inst_text::{
     choices_are_read_behind, knapsack_texts_are_read, shop_texts_are_read, starts_are_read_behind,
@@ -29,6 +31,19 @@ pub fn solutions_are_checked()
 {
     solved_choices_are_checked();
     solved_schedules_are_checked();
+}
+
+/// Law: what `prove` writes for a knapsack, `verify` answers as proved behind it: behind any text of the knapsack that ends
+/// with a line feed, if the two together are not too long for an input.
+pub fn proofs_are_verified()
+    ensures { AreVerified }
+{
+    knapsack_texts_are_read();
+    proofs_are_read_behind();
+    value_and_cost_are_all();
+    best_is_cheapest();
+    canonical_is_accepted();
+    accepted_have_no_bad_token();
 }
 
 // Law: the same of a knapsack.

@@ -18,7 +18,7 @@ mod tests;
 mod words;
 
 pub use command::{Command, Kind, Which};
-pub use laws::{solutions_are_checked, traces_are_one};
+pub use laws::{proofs_are_verified, solutions_are_checked, traces_are_one};
 pub use reporting::report;
 pub use run::run_still;
 pub use status::Status;

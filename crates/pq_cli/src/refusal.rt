@@ -15,6 +15,7 @@ pub enum Refusal {
     Full { place: u32 },
     ReadFault,
     NoMemory,
+    ProofLimit,
 }
 
 impl From<NoMemory> for Refusal {
@@ -89,6 +90,7 @@ impl From<Refusal> for Status {
             Refusal::Full { place } => Status::Full { place },
             Refusal::ReadFault => Status::ReadFault,
             Refusal::NoMemory => Status::NoMemory,
+            Refusal::ProofLimit => Status::ProofLimit,
         }
     }
 }

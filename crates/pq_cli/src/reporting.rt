@@ -44,6 +44,7 @@ fn fault_line(status: Status) -> ArrayString<LINE_ROOM>
         Status::ReadFault => line.push_str("read fault\n"),
         Status::WriteFault => line.push_str("write fault\n"),
         Status::NoMemory => line.push_str("no memory\n"),
+        Status::ProofLimit => line.push_str("proof limit\n"),
     }
     line
 }

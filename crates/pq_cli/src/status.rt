@@ -10,7 +10,7 @@ use pq_io::BadInput;
 pub enum Status {
     /// The input was read to its end, and the whole answer was written.
     Ok,
-    /// An audit or a check: the output names the first place or clause that fails.
+    /// An audit, a check or a verification: the output names the first place, clause or token that fails.
     Illegal,
     /// No command reads the words.
     BadWords,
@@ -26,6 +26,8 @@ pub enum Status {
     WriteFault,
     /// There was no memory for the work.
     NoMemory,
+    /// The proof has more tokens than a proof may have.
+    ProofLimit,
 }
 
 impl Status {
@@ -43,6 +45,7 @@ impl Status {
             Status::ReadFault => 6,
             Status::WriteFault => 7,
             Status::NoMemory => 8,
+            Status::ProofLimit => 9,
         }
     }
 }

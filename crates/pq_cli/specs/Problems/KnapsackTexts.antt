@@ -1,13 +1,12 @@
 -- The knapsack's texts, and its verdicts.
-use Rattle.std.specs.Prelude.{ℕ, ◌≡◌, List, [], ◌∷◌, codes}
-use Rattle.std.specs.Fmt.{decimal}
-use Rattle.pq_io.specs.Writing.{lines_text}
+use Rattle.std.specs.Prelude.{ℕ, ◌≡◌, List, [], ◌∷◌, ◌++◌}
 use Rattle.inst_text.specs.declared.plan.Claimed.{Claimed}
 use Rattle.inst_text.specs.Knapsack.{Instance, knapsack_of, choice_text}
 use Rattle.inst_text.specs.Plans.{knapsack_plan_of}
 use Rattle.bb_knap.specs.declared.verdict.KnapVerdict.{KnapVerdict}
-use Rattle.bb_knap.specs.declared.verdict.KnapVerdict.TheVariants.{Feasible, BadWeight, BadValue}
+use Rattle.bb_knap.specs.declared.verdict.KnapVerdict.TheVariants.{Feasible}
 use Rattle.bb_knap.specs.Verdicts.{IsVerdict}
+use Rattle.bb_knap.specs.Verdicts as verdicts
 use Rattle.bb_knap.specs.Plans.{value_of}
 use Rattle.bb_knap.specs.Branching.{root_bound}
 use Rattle.pq_cli.specs.declared.status.Status.{Status}
@@ -18,8 +17,7 @@ use Rattle.pq_cli.specs.Using.{Texts}
 -- the verdict on a choice with this stated value
 abbrev pub verdict_text : ℕ → KnapVerdict → List ℕ
 verdict_text stated Feasible = feasible_text stated
-verdict_text stated (BadWeight weight) = lines_text ((codes "bad" ∷ codes "weight" ∷ decimal weight ∷ []) ∷ [])
-verdict_text stated (BadValue value) = lines_text ((codes "bad" ∷ codes "value" ∷ decimal value ∷ []) ∷ [])
+verdict_text stated verdict = verdicts.verdict_text verdict ++ 10 ∷ []
 
 -- the status that it ends with
 abbrev pub verdict_status : KnapVerdict → Status

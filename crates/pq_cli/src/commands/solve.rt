@@ -34,9 +34,9 @@ pub fn solve<P: UsedProblem>(
     })
 }
 
-// A plan that no feasible plan betters.
+/// A plan that no feasible plan betters, found by a search over a plain queue.
 #[tactic(auto, using(crate::proofs::Planned::planned))]
-fn best_plan<P: Problem>(
+pub fn best_plan<P: Problem>(
     alloc: Global,
     problem: &P,
     nodes: u32,

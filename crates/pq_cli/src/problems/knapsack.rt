@@ -2,7 +2,6 @@
 
 ghost use Rattle.std.specs.Prelude.{◌≡◌, IfOk};
 ghost use Rattle.bb_knap.specs.Plans.{IsChoiceOf};
-ghost use Rattle.bb_knap.specs.declared.verdict.KnapVerdict.TheVariants as verdicts;
 ghost use Rattle.pq_cli.specs.Statuses.{IsAnswered};
 ghost use Rattle.pq_cli.specs.Problems.KnapsackTexts.{texts, verdict_text, verdict_status};
 
@@ -12,7 +11,7 @@ use crate::problem::UsedProblem;
 use crate::status::Status;
 use bb_knap::{KnapVerdict, Knapsack};
 use inst_text::{Choice, Claimed, read_knapsack, read_plan_knapsack, write_choice};
-use pq_io::{NoMemory, ReadRefusal, write_number};
+use pq_io::{NoMemory, ReadRefusal};
 use std::alloc::Global;
 
 impl UsedProblem for Knapsack {
@@ -66,17 +65,8 @@ fn verdict_text(alloc: Global, stated: u32, verdict: KnapVerdict) -> Result<Vec<
 {
     match verdict {
         KnapVerdict::Feasible => labelled(alloc, b"feasible", &[stated]),
-        KnapVerdict::BadWeight(weight) => weight_text(alloc, weight),
-        KnapVerdict::BadValue(value) => labelled(alloc, b"bad value", &[value]),
+        KnapVerdict::BadWeight(_) | KnapVerdict::BadValue(_) => {
+            Ok(format!(in alloc; "{verdict}\n")?.into_bytes())
+        }
     }
-}
-
-// A choice of this weight does not fit.
-fn weight_text(alloc: Global, weight: u64) -> Result<Vec<u8>, NoMemory>
-    ensures { IfOk result (λ text. text.items ≡ verdict_text 0 (verdicts.BadWeight weight)) }
-{
-    let mut text = Vec::from_slice(alloc, b"bad weight ")?;
-    write_number(&mut text, weight)?;
-    text.push(b'\n')?;
-    Ok(text)
 }

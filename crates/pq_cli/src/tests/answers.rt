@@ -17,6 +17,12 @@ const GOOD_CHOICE: &str = "3 5\n2 3\n3 4\n4 5\nvalue 7\nitems 0 1\n";
 const EARLY_START: &str = "3 3\n0 3 1 2 2 2\n0 2 2 1 1 4\n1 4 2 3 0 0\n\
     makespan 11\n1 5 7\n0 2 7\n0 4 7\n";
 
+const TWO_ITEMS: &str = "2 5\n3 4\n4 5\n";
+
+const PROVED: &str = "2 5\n3 4\n4 5\nvalue 5\nitems 1\nproof 4\nb\nb\nc\nc\n";
+
+const SHORT_PROOF: &str = "2 5\n3 4\n4 5\nvalue 5\nitems 1\nproof 1\nc\n";
+
 #[test]
 fn answers_inputs(rt: HostRuntime) -> Result<(), Fail> {
     for (words, input, status, output) in [
@@ -40,6 +46,19 @@ fn answers_inputs(rt: HostRuntime) -> Result<(), Fail> {
             EARLY_START,
             Status::Illegal,
             "bad machine 0 0 1 0\n",
+        ),
+        (
+            "prove knapsack --queue plain",
+            TWO_ITEMS,
+            Status::Ok,
+            "value 5\nitems 1\nproof 4\nb\nb\nc\nc\n",
+        ),
+        ("verify knapsack", PROVED, Status::Ok, "proved 5\n"),
+        (
+            "verify knapsack",
+            SHORT_PROOF,
+            Status::Illegal,
+            "bad token 0\n",
         ),
         (
             "trace --queue plain",

@@ -3,7 +3,7 @@
 ghost use Rattle.std.specs.Prelude.{◌≡◌, ◌<◌, ◌≤◌, [], ◌∷◌, length, IfOk, IfSome, MatchOption};
 ghost use Rattle.pq_cli.specs.Words.{settings_from, is_silent};
 ghost use Rattle.pq_cli.specs.CommandWords.{HasLimits, answer_of, command_of, texts, within, solve_from, kind_alone};
-ghost use Rattle.pq_cli.specs.CommandWords.{bound_from, check_from, trace_from, audit_from};
+ghost use Rattle.pq_cli.specs.CommandWords.{bound_from, check_from, prove_from, verify_from, trace_from, audit_from};
 
 use crate::command::{Command, Kind};
 use crate::words::options::{pair_name, with_lone, with_option};
@@ -51,6 +51,10 @@ fn command_of(words: &[String]) -> Option<Command>
         bound_from(settings_from(Settings::NONE, behind)?)
     } else if name == b"check".as_slice() {
         check_from(settings_from(Settings::NONE, behind)?)
+    } else if name == b"prove".as_slice() {
+        prove_from(settings_from(Settings::NONE, behind)?)
+    } else if name == b"verify".as_slice() {
+        verify_from(settings_from(Settings::NONE, behind)?)
     } else if name == b"trace".as_slice() {
         trace_from(settings_from(Settings::NONE, behind)?)
     } else if name == b"audit".as_slice() {
@@ -157,6 +161,38 @@ fn check_from(said: Settings) -> Option<Command>
 {
     let kind = kind_alone(said)?;
     Some(Command::Check { kind })
+}
+
+fn prove_from(said: Settings) -> Option<Command>
+    ensures exact { result ≡ prove_from said }
+    ensures limits { IfSome result HasLimits }
+{
+    match solve_from(said)? {
+        Command::Solve {
+            kind: Kind::Knapsack,
+            queue,
+            workers,
+            nodes,
+            capacity,
+        } => Some(Command::Prove {
+            queue,
+            workers,
+            nodes,
+            capacity,
+        }),
+        _ => None,
+    }
+}
+
+#[tactic(auto, unfolding(crate::specs::CommandWords::verify_from))]
+fn verify_from(said: Settings) -> Option<Command>
+    ensures exact { result ≡ verify_from said }
+    ensures limits { IfSome result HasLimits }
+{
+    match kind_alone(said)? {
+        Kind::Knapsack => Some(Command::Verify),
+        Kind::Shop => None,
+    }
 }
 
 #[tactic(auto, unfolding(crate::specs::CommandWords::trace_from))]
