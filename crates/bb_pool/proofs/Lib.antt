@@ -7,5 +7,5 @@ pub mod Names
 pub mod Needs
 pub mod Counts
 pub mod Searches
-pub mod Kept
+pub mod Bounds
 pub mod OnePass

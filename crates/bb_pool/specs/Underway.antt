@@ -43,21 +43,21 @@ pub record IsUnderway {N P : Type 0} (m : Meaning N P) (nodes capacity : ℕ) (s
   pub within : length search.store ≤ nodes
   pub capacity_is : search.pass.capacity ≡ capacity
 
--- the child was put into the store, and an entry for it into the queue, which had room
-pub record IsPut {N P : Type 0} (before : Search N P) (child : Child N) (now : Search N P) : Type 0 where
+-- the node was put into the store, and an entry for it into the queue, which had room
+pub record IsPut {N P : Type 0} (before : Search N P) (key : ℕ) (node : N) (now : Search N P) : Type 0 where
   pub entry : Entry
-  pub key : entry.key ≡ child.key
+  pub key_is : entry.key ≡ key
   pub id : entry.id ≡ length before.store
-  pub stored : now.store ≡ before.store ++ Some child.node ∷ []
+  pub stored : now.store ≡ before.store ++ Some node ∷ []
   pub room : length (held before.pass) < before.pass.capacity
   pub added : held now.pass ≡ add entry (held before.pass)
   pub calls : length now.pass.known.calls ≡ length before.pass.known.calls + 1
   pub number : now.pass.known.number ≡ before.pass.known.number
   pub capacity : now.pass.capacity ≡ before.pass.capacity
   pub best : now.best ≡ before.best
-  pub kept : now.kept ≡ before.kept
+  pub keys : now.keys ≡ before.keys
 
--- why a child was not put: the queue was full, at this place
+-- why a node was not put: the queue was full, at this place
 abbrev pub IsNotPut : {N P : Type 0} → Search N P → Stop → Type 0
 IsNotPut before (Full place) =
     (length (held before.pass) ≡ before.pass.capacity) × (place ≡ length before.pass.known.calls)

@@ -1,10 +1,11 @@
 //! The children of a branch that a search keeps: those whose bounds are below the best cost so far.
 
-ghost use Rattle.std.specs.Prelude.{◌≡◌, OnOk};
+ghost use Rattle.std.specs.Prelude.{◌≡◌, ◌<◌, ◌≤◌, length, All, OnOk, IfOk};
+ghost use Rattle.bb_problem.specs.Limits.{max_children};
+ghost use Rattle.pq_words.specs.Limits.{key_limit};
 ghost use Rattle.bb_pool.specs.Costs.{is_better};
-ghost use Rattle.bb_pool.specs.Children.{AreKept};
+ghost use Rattle.bb_pool.specs.Children.{AreBounds, better_keys};
 
-use crate::child::Child;
 use bb_problem::Problem;
 use pq_io::NoMemory;
 
@@ -15,22 +16,26 @@ pub(crate) fn is_below(cost: u32, best: Option<u32>) -> bool
     best.is_none_or(|best| cost < best)
 }
 
-/// Keeps the nodes whose bounds are below the best cost, with these bounds, in a list whose memory is used again
-/// and again. The first is kept last, so that the list gives them back in order from its end.
-pub(crate) fn keep<P: Problem>(
+/// Writes the bounds of the nodes, in order, into a list whose memory is used again and again, and gives how many are
+/// below the best cost: these nodes are kept.
+pub(crate) fn bounds<P: Problem>(
     problem: &P,
-    mut nodes: Vec<P::Node>,
+    nodes: &[P::Node],
     best: Option<u32>,
-    kept: &mut Vec<Child<P::Node>>,
-) -> Result<(), NoMemory>
-    ensures { OnOk result (AreKept (P.meaning problem.now) best nodes.items kept.new.items) }
+    keys: &mut Vec<u32>,
+) -> Result<usize, NoMemory>
+    requires few { length nodes.now ≤ max_children }
+    ensures bounds { OnOk result (AreBounds (P.meaning problem.now) nodes.now keys.new.items) }
+    ensures small { OnOk result (All (λ key. key < key_limit) keys.new.items) }
+    ensures kept { IfOk result (λ kept. kept ≡ length (better_keys best keys.new.items)) }
+    ensures few { IfOk result (λ kept. kept ≤ max_children) }
 {
-    kept.clear();
-    while let Some(node) = nodes.pop() {
-        let key = problem.bound(&node);
-        if is_below(key, best) {
-            kept.push(Child { key, node })?;
-        }
+    keys.clear();
+    let mut kept = 0;
+    for node in nodes {
+        let key = problem.bound(node);
+        kept += usize::from(is_below(key, best));
+        keys.push(key)?;
     }
-    Ok(())
+    Ok(kept)
 }

@@ -2,13 +2,13 @@
 
 ghost use Rattle.std.specs.Prelude.{ℕ, ◌≡◌, ◌≤◌, ◌<◌, List, [], IfOk, IfErr, IsSome, length};
 ghost use Rattle.pq_model.specs.Passes.{fresh};
+ghost use Rattle.bb_problem.specs.Limits.{max_children};
 ghost use Rattle.bb_pool.specs.Limits.{max_nodes};
 ghost use Rattle.bb_pool.specs.Outcomes.{IsOutcome, IsStop, outcome_of, IfNodeLimit};
 ghost use Rattle.bb_pool.specs.Children.{StandAt};
 ghost use Rattle.bb_pool.specs.Underway.{IsUnderway, IsOver, IsTurn, best_outcome};
 
-use crate::child::Child;
-use crate::children::{is_below, keep};
+use crate::children::{bounds, is_below};
 use crate::found::Found;
 use crate::outcome::{Outcome, Stop};
 use crate::state::Search;
@@ -76,10 +76,10 @@ fn begin<P: Problem>(
     let mut search = Search {
         pass,
         store,
-        kept: Vec::new(alloc),
+        keys: Vec::new(alloc),
         best: None,
     };
-    search.put(Child { key, node: root })?;
+    search.put(key, root)?;
     Ok(search)
 }
 
@@ -137,6 +137,7 @@ fn branch<P: Problem>(
     nodes: u32,
 ) -> Result<(), Stop>
     requires nodes { nodes ≤ max_nodes }
+    requires few { length children.items ≤ max_children }
     requires underway { (waiting : List (List ℕ)) × StandAt (P.meaning problem.now).stands children.items waiting
         × IsUnderway (P.meaning problem.now) nodes search.old.pass.capacity search.old waiting }
     ensures calls { IfOk result (λ _. length search.old.pass.known.calls ≤ length search.new.pass.known.calls) }
@@ -145,13 +146,19 @@ fn branch<P: Problem>(
     ensures stops { IfErr result (IsStop (P.meaning problem.now) nodes search.old.pass.capacity) }
 {
     let best = search.best_cost();
-    keep(problem, children, best, &mut search.kept)?;
-    let asked = search.store.len() as u64 + search.kept.len() as u64;
+    let kept = bounds(problem, &children, best, &mut search.keys)?;
+    let asked = search.store.len() as u64 + kept as u64;
     if asked > u64::from(nodes) {
         return Err(Stop::NodeLimit { asked });
     }
-    while let Some(child) = search.kept.pop() {
-        search.put(child)?;
+    let mut place = 0;
+    for node in children {
+        let key = search.keys[place];
+        place += 1;
+        if !is_below(key, best) {
+            continue;
+        }
+        search.put(key, node)?;
     }
     Ok(())
 }
@@ -164,7 +171,7 @@ fn finish<N: Drop, P: Drop>(search: Search<N, P>) -> Outcome<P>
     let Search {
         pass: _,
         store: _,
-        kept: _,
+        keys: _,
         best,
     } = search;
     let Some(Found { plan, cost }) = best else {

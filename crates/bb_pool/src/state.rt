@@ -12,13 +12,13 @@ use crate::store::Store;
 use pq_api::{Below, Inserted, PlainPass, one_seat_has_made_all};
 use pq_words::{Entry, KEY_LIMIT};
 
-/// A search with one caller: the queue's pass, the nodes made so far by number, each until it is taken, the
-/// children kept of the branch at hand, and the best plan so far.
+/// A search with one caller: the queue's pass, the nodes made so far by number, each until it is taken, the bounds
+/// of the branch at hand, and the best plan so far.
 #[derive(Drop)]
 pub(crate) struct Search<N, P> {
     pub(crate) pass: PlainPass,
     pub(crate) store: Store<N>,
-    pub(crate) kept: Vec<Child<N>>,
+    pub(crate) keys: Vec<u32>,
     pub(crate) best: Option<Found<P>>,
 }
 
@@ -47,16 +47,16 @@ impl<N: Drop, P: Drop> Search<N, P> {
         }
     }
 
-    /// Gives the child the next number, puts it into the store under it, and inserts an entry for it.
-    pub(crate) fn put(&mut self, child: Child<N>) -> Result<(), Stop>
+    /// Gives the node with this bound the next number, puts it into the store under it, and inserts an entry for it.
+    pub(crate) fn put(&mut self, key: u32, node: N) -> Result<(), Stop>
+        requires key { key < key_limit }
         requires few { length self.old.store < id_limit }
         requires calls { length self.old.pass.known.calls < call_limit - 1 }
         requires number { self.old.pass.known.number ≡ 1 }
-        ensures put { IfOk result (λ _. IsPut self.old child self.new) }
+        ensures put { IfOk result (λ _. IsPut self.old key node self.new) }
         ensures refused { IfErr result (IsNotPut self.old) }
     {
         let id = self.store.len() as u32;
-        let Child { key, node } = child;
         self.store.push(node)?;
         match self.pass.add(Entry { key, id }) {
             Inserted::Done(_) => Ok(()),

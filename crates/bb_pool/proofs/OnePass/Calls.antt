@@ -27,11 +27,11 @@ use Rattle.bb_pool.proofs.OnePass.Turns.{same_search}
 one_more : (before now : Known) (place : ℕ) (act : Act) (reply : Reply) → now ≡ with_call before place act reply → length now.calls ≡ length before.calls + 1
 one_more before now place act reply is = ap (λ (k : Known). length k.calls) is ∙ length-append before.calls (call place act reply ∷ [])
 
-pub put_made : {N P : Type 0} {before now : Search N P} {child : Child N} (e : Entry) (place : ℕ) → length (held before.pass) < before.pass.capacity → now.pass.known ≡ with_call before.pass.known place (Insert e) Done → held now.pass ≡ add e (held before.pass) → e.key ≡ child.key → e.id ≡ length before.store
-    → now.store ≡ before.store ++ Some child.node ∷ [] → now.pass.capacity ≡ before.pass.capacity → now.best ≡ before.best → now.kept ≡ before.kept → IsPut before child now
-put_made {before} {now} e place room called added key id stored capacity best kept = record {
+pub put_made : {N P : Type 0} {before now : Search N P} {key : ℕ} {node : N} (e : Entry) (place : ℕ) → length (held before.pass) < before.pass.capacity → now.pass.known ≡ with_call before.pass.known place (Insert e) Done → held now.pass ≡ add e (held before.pass) → e.key ≡ key → e.id ≡ length before.store
+    → now.store ≡ before.store ++ Some node ∷ [] → now.pass.capacity ≡ before.pass.capacity → now.best ≡ before.best → now.keys ≡ before.keys → IsPut before key node now
+put_made {before} {now} e place room called added same id stored capacity best keys = record {
   entry = e;
-  key = key;
+  key_is = same;
   id = id;
   stored = stored;
   room = room;
@@ -40,7 +40,7 @@ put_made {before} {now} e place room called added key id stored capacity best ke
   number = ap (λ (k : Known). k.number) called;
   capacity = capacity;
   best = best;
-  kept = kept;
+  keys = keys;
 }
 
 pub take_made : {N P : Type 0} {before now : Search N P} {child : Child N} (e : Entry) (place limit : ℕ) → limit ≡ limit_of (cost_so_far before.best) → e.key < limit → now.pass.known ≡ with_call before.pass.known place (RemoveBelow limit) (Got e) → least (held before.pass) ≡ Some e → held now.pass ≡ without_least (held before.pass) → child.key ≡ e.key
@@ -57,29 +57,6 @@ take_made {before} {now} e place limit is below called first rest key node empti
   capacity = capacity;
   best = best;
 }
-
--- no entry was left below the limit
-pub spent_made : {N P : Type 0} {before now : Search N P} (place limit : ℕ) (reply : Reply) → limit ≡ limit_of (cost_so_far before.best) → now.pass.known ≡ with_call before.pass.known place (RemoveBelow limit) reply → held now.pass ≡ held before.pass
-    → IfSome (least (held before.pass)) (λ (e : Entry). limit ≤ e.key) → Knows 1 before.pass.capacity now.pass.known → now.best ≡ before.best → IsSpent before now
-spent_made {before} {now} place limit reply is called same high knows best = record {
-  same = same;
-  ended = λ one. subst (λ (l : ℕ). EndsAt before.pass.capacity l now.pass.known) is (record {
-    number = ap (λ (k : Known). k.number) called ∙ one;
-    knows = knows;
-    asked = (before.pass.known.calls, place, reply, ap (λ (k : Known). k.calls) called);
-    at_least = subst (λ (m : List Entry). IfSome (least m) (λ (e : Entry). limit ≤ e.key)) (sym same) high;
-  });
-  best = best;
-}
-
--- the least entry, if there is one, is at least the limit
-pub none_below : (limit : ℕ) (m : List Entry) → m ≡ [] → IfSome (least m) (λ (e : Entry). limit ≤ e.key)
-none_below limit [] none = tt
-none_below limit (x ∷ xs) none = absurd (cc)
-
-pub least_above : (limit : ℕ) (m : List Entry) → IsSomeAnd (least m) (λ (e : Entry). limit ≤ e.key) → IfSome (least m) (λ (e : Entry). limit ≤ e.key)
-least_above limit [] above = tt
-least_above limit (x ∷ xs) above = above
 
 -- a search whose queue has had no call yet, with the root still to be put
 pub begun : {N P : Type 0} {m : Meaning N P} (nodes : ℕ) (before : Search N P) → IsLawful m → before.pass.known ≡ fresh 1 → before.store ≡ [] → before.best ≡ None
@@ -103,7 +80,3 @@ begun {m} nodes before laws is empty none =
 pub of_least : (P : Entry → Type 0) (m : List Entry) (e : Entry) → least m ≡ Some e → All P m → P e
 of_least P [] e is all = absurd (cc)
 of_least P (x ∷ xs) e is all = let same : x ≡ e = cc in subst P same (All-head P x xs all)
-
--- the node that a slot was found to hold
-pub node_in_slot : {N : Type 0} (store : List (Option N)) (e : Entry) (slot d : Option N) (node : N) → IsStored store e → slot ≡ get_or store e.id d → slot ≡ Some node → slice_get store e.id ≡ Some (Some node)
-node_in_slot store e slot d node s read is = s.1 ∙ ap Some (sym (get_or_from_slice_get store e.id (Some s.0) d s.1) ∙ sym read ∙ is)

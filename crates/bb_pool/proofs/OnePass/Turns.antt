@@ -49,18 +49,18 @@ pub found_above : {N P : Type 0} {m : Meaning N P} (best : Option (Found P)) →
 found_above None laws found = tt
 found_above (Some f) laws found = let least = laws.least_of_all f.plan found.0 in let cost = found.1 in omega arith
 
--- a child that waits is put
+-- a node that waits is put
 pub put_underway : {N P : Type 0} {m : Meaning N P} {nodes capacity : ℕ} {before now : Search N P}
-    (name : List ℕ) (waiting : List (List ℕ)) (child : Child N) → IsUnderway m nodes capacity before (name ∷ waiting) → IsPut before child now → m.stands child.node name → child.key ≡ m.tree.bound name → length before.store < nodes
+    (name : List ℕ) (waiting : List (List ℕ)) (key : ℕ) (node : N) → IsUnderway m nodes capacity before (name ∷ waiting) → IsPut before key node now → m.stands node name → key ≡ m.tree.bound name → length before.store < nodes
     → IsUnderway m nodes capacity now waiting
-put_underway {m} {before} {now} name waiting child u p st key room =
-    let longer : length now.store ≡ length before.store + 1 = ap length p.stored ∙ length-append before.store (Some child.node ∷ []) in
+put_underway {m} {before} {now} name waiting key node u p st bound room =
+    let longer : length now.store ≡ length before.store + 1 = ap length p.stored ∙ length-append before.store (Some node ∷ []) in
     let more : length (held now.pass) ≡ length (held before.pass) + 1 = ap length p.added ∙ length-add p.entry (held before.pass) in
     record {
       lawful = u.lawful;
       names = u.names ++ name ∷ [];
       searching = same_search (sym p.added) (sym p.stored) (ap cost_so_far (sym p.best))
-          (node_put name waiting child.node p.entry u.searching st (p.key ∙ key) p.id (let has = p.room in let is = u.capacity_is in omega arith));
+          (node_put name waiting node p.entry u.searching st (p.key_is ∙ bound) p.id (let has = p.room in let is = u.capacity_is in omega arith));
       found = subst (λ (f : Option (Found _)). IsFound m f) (sym p.best) u.found;
       calls = let calls = u.calls in let made = p.calls in omega arith;
       number = p.number ∙ u.number;
@@ -68,7 +68,7 @@ put_underway {m} {before} {now} name waiting child u p st key room =
       capacity_is = p.capacity ∙ u.capacity_is;
     }
 
--- a child that waits is not put
+-- a node that waits is not put
 pub stop_not_put : {N P : Type 0} (m : Meaning N P) (nodes capacity : ℕ) (before : Search N P)
     (name : List ℕ) (waiting : List (List ℕ)) (stop : Stop) → IsUnderway m nodes capacity before (name ∷ waiting) → IsNotPut before stop → length before.store < nodes
     → IsStop m nodes capacity stop
@@ -88,11 +88,6 @@ taken_stands : {N P : Type 0} {m : Meaning N P} {nodes capacity : ℕ} {before n
     (u : IsUnderway m nodes capacity before []) → (t : IsTaken before child now) → m.stands child.node (name_at u.names t.entry.id)
 taken_stands {m} {before} {now} {child} u t = let f = All-head (StandsFor m u.names before.store) t.entry (held now.pass) (taken_searching u t).each in
     let stored = f.stored in let there = t.node in let same : f.node ≡ child.node = cc in subst (λ n. m.stands n (name_at u.names t.entry.id)) same f.named
-
--- its key is its bound
-taken_keyed : {N P : Type 0} {m : Meaning N P} {nodes capacity : ℕ} {before now : Search N P} {child : Child N}
-    (u : IsUnderway m nodes capacity before []) → (t : IsTaken before child now) → child.key ≡ m.tree.bound (name_at u.names t.entry.id)
-taken_keyed {m} {before} {now} {child} u t = let f = All-head (StandsFor m u.names before.store) t.entry (held now.pass) (taken_searching u t).each in t.key ∙ f.keyed
 
 -- the search after the node was dealt with
 taken_underway : {N P : Type 0} {m : Meaning N P} {nodes capacity : ℕ} {before now : Search N P} {child : Child N}
@@ -232,10 +227,6 @@ over m nodes capacity before now u t rising =
     let ended = subst (λ (c : ℕ). EndsAt c (limit_of (cost_so_far before.best)) now.pass.known) u.capacity_is (t.ended u.number) in
     over_by now.best now.pass.known u t.best (subst (λ b. All (λ (e : Entry). is_better e.key (cost_so_far b) ≡ false) (held before.pass)) (sym t.best) (spent_keys u t rising))
     (subst (λ b. EndsAt capacity (limit_of (cost_so_far b)) now.pass.known) (sym t.best) ended)
-
-pub over_found : {N P : Type 0} (m : Meaning N P) (nodes capacity : ℕ) (best : Option (Found P)) (known : Known) → IsOver m nodes capacity best known → IsSome best
-over_found m nodes capacity None known is = absurd is
-over_found m nodes capacity (Some found) known is = refl
 
 pub over_outcome : {N P : Type 0} (m : Meaning N P) (nodes capacity : ℕ) (best : Option (Found P)) (known : Known) → IsOver m nodes capacity best known → IsOutcome m nodes capacity (best_outcome best)
 over_outcome m nodes capacity None known is = absurd is

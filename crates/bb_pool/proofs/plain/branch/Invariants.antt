@@ -1,9 +1,11 @@
-use Rattle.std.proofs.Common.{length, vec_len}
+use Rattle.std.proofs.Common.{◌<◌, ℕ, length, drop}
+use Rattle.std.specs.Prelude.{All}
+use Rattle.pq_words.specs.Limits.{key_limit}
 use Rattle.bb_pool.proofs.OnePass.Putting.{IsPutting}
 use Rattle.bb_pool.proofs.plain.branch.Given as goal
 
-abbrev pub invariant-loop-child : goal.invariant-loop-child
-invariant-loop-child g l = IsPutting (g.P.Problem.meaning l.problem) l.nodes l.fn.search.pass.capacity (length l.fn.search.pass.known.calls) l.search l.search.kept.items
-
-abbrev pub decreases-loop-child : goal.decreases-loop-child
-decreases-loop-child g l = vec_len l.search.kept
+abbrev pub invariant-loop-node : goal.invariant-loop-node
+invariant-loop-node g l = record {
+  putting : IsPutting (g.P.Problem.meaning l.problem) l.nodes l.fn.search.pass.capacity (length l.fn.search.pass.known.calls) l.best l.search l.node-iterator.rest.items (drop l.place l.search.keys.items);
+  small : All (λ (key : ℕ). key < key_limit) l.search.keys.items;
+}
