@@ -1,8 +1,8 @@
 #!/usr/bin/env python3
 """Checks that a knapsack's plan is optimal, from the proof behind it, with nothing of the program that made them.
 
-Reads an instance, a plan and a proof from standard input, in the texts of docs/formats.md, and prints what
-`pq verify knapsack` prints. Takes the texts as well formed. Ends with 0 where the plan is proved, and else with 1.
+Reads an instance, a plan and a proof from standard input, as docs/formats.md has them, takes them as well formed, and
+prints what `pq verify knapsack` prints. Ends with 0 where the plan is proved, and else with 1.
 """
 import sys
 from fractions import Fraction
@@ -14,31 +14,25 @@ def judge(capacity, items, stated, choice, tokens):
         return f"bad weight {weight}"
     if value != stated:
         return f"bad value {value}"
-    # Items without weight first, then by falling value for their weight, and equal ones by number.
-    ratio = lambda w, v: Fraction(v, w) if w else 0
-    order = sorted(range(len(items)), key=lambda k: (items[k][0] > 0, -ratio(*items[k]), k))
+    # Items without weight first, then by falling value for their weight; equal ones stay in the order of their numbers.
+    order = sorted(items, key=lambda item: -Fraction(item[1], item[0]) if item[0] else float("-inf"))
 
-    def most(depth, room):
-        """No choice of the items from this depth on that weighs at most the room is worth more."""
-        total = 0
-        for weight, value in (items[k] for k in order[depth:]):
+    def allowed(depth, room, total):
+        """What a node allows: no choice under it is worth more."""
+        for weight, value in order[depth:]:
             if weight > room:
                 return total + room * value // weight
             room, total = room - weight, total + value
         return total
 
-    # The nodes that the walk still has to visit, the next one last: how many items are decided, the room that is left,
-    # and the value that was taken.
-    nodes = [(0, capacity, 0)]
+    nodes = [(0, capacity, 0)]  # depth, room and value of those that the walk still comes to, the next one last
     for place, token in enumerate(tokens):
-        if not nodes:
-            return f"bad token {place}"
-        depth, room, taken = nodes.pop()
-        if token == "c" and taken + most(depth, room) <= stated:
+        depth, room, taken = nodes.pop() if nodes else (len(order), 0, stated + 1)
+        if token == "c" and allowed(depth, room, taken) <= stated:
             continue
-        if token == "c" or depth == len(items):
+        if token == "c" or depth == len(order):
             return f"bad token {place}"
-        weight, value = items[order[depth]]
+        weight, value = order[depth]
         nodes.append((depth + 1, room, taken))
         if weight <= room:
             nodes.append((depth + 1, room - weight, taken + value))
