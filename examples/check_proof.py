@@ -27,7 +27,9 @@ def judge(capacity, items, stated, choice, tokens):
 
     nodes = [(0, capacity, 0)]  # depth, room and value of those that the walk still comes to, the next one last
     for place, token in enumerate(tokens):
-        depth, room, taken = nodes.pop() if nodes else (len(order), 0, stated + 1)
+        if not nodes:
+            return f"bad token {place}"
+        depth, room, taken = nodes.pop()
         if token == "c" and allowed(depth, room, taken) <= stated:
             continue
         if token == "c" or depth == len(order):
