@@ -7,6 +7,8 @@ use Rattle.pq_io.specs.Reading.{is_between}
 use Rattle.pq_model.specs.Limits.{max_capacity}
 use Rattle.bb_pool.specs.Limits.{max_nodes}
 use Rattle.pq_cli.specs.declared.command.Kind.{Kind}
+use Rattle.pq_cli.specs.declared.command.Branching.{Branching}
+use Rattle.pq_cli.specs.declared.command.Branching.TheVariants.{Dispatch}
 use Rattle.pq_cli.specs.declared.command.Kind.TheVariants.{Knapsack, Shop}
 use Rattle.pq_cli.specs.declared.command.Command.{Command}
 use Rattle.pq_cli.specs.declared.command.Command.TheVariants.{Solve, Bound, Check, Prove, Verify, Trace, Audit}
@@ -15,7 +17,7 @@ use Rattle.pq_cli.specs.declared.commands.task.Task.TheVariants as tasks
 use Rattle.pq_cli.specs.declared.words.reading.WordsRefusal.{WordsRefusal}
 use Rattle.pq_cli.specs.declared.words.reading.WordsRefusal.TheVariants.{BadWords}
 use Rattle.pq_cli.specs.declared.words.settings.Settings.{Settings}
-use Rattle.pq_cli.specs.Words.{◌>>=◌, settings_from, is_silent}
+use Rattle.pq_cli.specs.Words.{◌>>=◌, settings_from, is_unlimited, is_silent}
 
 -- the bytes of each word
 abbrev pub texts : List (String Global) → List (List ℕ)
@@ -29,27 +31,36 @@ within low high n = if is_between low high n then Some n else None
 abbrev pub default_nodes : ℕ
 default_nodes = 100000
 
+-- Only a shop has two ways to branch; where none is said, it is by dispatching.
+abbrev pub branching_for : Kind → Option Branching → Option Branching
+branching_for Shop said = Some (unwrap_or said Dispatch)
+branching_for Knapsack None = Some Dispatch
+branching_for Knapsack (Some branching) = None
+
 -- A problem and a queue; one worker, one node at least, and a capacity of at least the workers. Where it is not said,
 -- the capacity is the nodes and the workers.
 unfoldable pub solve_from : Settings → Option Command
 solve_from said = do
   kind ← said.kind
+  branching ← branching_for kind said.branching
   queue ← said.queue
   workers ← within 1 1 (unwrap_or said.workers 1)
   nodes ← within 1 max_nodes (unwrap_or said.nodes default_nodes)
   capacity ← within workers max_capacity (unwrap_or said.capacity (nodes + workers))
-  Some (Solve kind queue workers nodes capacity)
+  Some (Solve kind branching queue workers nodes capacity)
+
+-- a problem, and for a shop a branching
+unfoldable pub bound_from : Settings → Option Command
+bound_from said = do
+  kind ← said.kind
+  branching ← branching_for kind said.branching
+  if is_unlimited said then Some (Bound kind branching) else None
 
 -- a problem, and no option
 unfoldable pub kind_alone : Settings → Option Kind
 kind_alone said = do
   kind ← said.kind
   if is_silent said then Some kind else None
-
-unfoldable pub bound_from : Settings → Option Command
-bound_from said = do
-  kind ← kind_alone said
-  Some (Bound kind)
 
 unfoldable pub check_from : Settings → Option Command
 check_from said = do
@@ -58,7 +69,7 @@ check_from said = do
 
 -- the same search, of a knapsack and for a proof
 abbrev pub proof_search : Command → Option Command
-proof_search (Solve Knapsack queue workers nodes capacity) = Some (Prove queue workers nodes capacity)
+proof_search (Solve Knapsack branching queue workers nodes capacity) = Some (Prove queue workers nodes capacity)
 proof_search _ = None
 
 -- a knapsack, and what a solve has
@@ -82,14 +93,14 @@ unfoldable pub trace_from : Settings → Option Command
 trace_from said = do
   queue ← said.queue
   capacity ← within 1 max_capacity (unwrap_or said.capacity default_capacity)
-  if is_none said.kind && (is_none said.workers && is_none said.nodes) then Some (Trace queue capacity) else None
+  if is_none said.kind && (is_none said.branching && (is_none said.workers && is_none said.nodes)) then Some (Trace queue capacity) else None
 
 -- nothing
 unfoldable pub audit_from : Settings → Option Command
 audit_from said = if is_none said.kind && is_silent said then Some Audit else None
 
 abbrev pub nothing : Settings
-nothing = record { kind = None; queue = None; workers = None; nodes = None; capacity = None }
+nothing = record { kind = None; branching = None; queue = None; workers = None; nodes = None; capacity = None }
 
 -- The command that the words say; None where no command reads them.
 unfoldable pub command_of : List (List ℕ) → Option Command
@@ -121,8 +132,8 @@ HasTaskLimits _ = Unit {0}
 
 -- the same of a command
 abbrev pub HasLimits : Command → Type 0
-HasLimits (Solve kind queue workers nodes capacity) = AreLimits nodes capacity
-HasLimits (Bound kind) = Unit {0}
+HasLimits (Solve kind branching queue workers nodes capacity) = AreLimits nodes capacity
+HasLimits (Bound kind branching) = Unit {0}
 HasLimits (Check kind) = Unit {0}
 HasLimits (Trace queue capacity) = (1 ≤ capacity) × (capacity ≤ max_capacity)
 HasLimits (Prove queue workers nodes capacity) = AreLimits nodes capacity

@@ -8,6 +8,7 @@ use Rattle.bb_proof.specs.Texts.{proof_of}
 use Rattle.bb_knap.specs.Branching as knapsacks
 use Rattle.bb_problem.specs.Meaning.{Meaning}
 use Rattle.bb_problem.specs.Tree.{needed}
+use Rattle.pq_cli.specs.declared.command.Branching.TheVariants.{Dispatch}
 use Rattle.pq_cli.specs.declared.command.Command.{Command}
 use Rattle.pq_cli.specs.declared.command.Command.TheVariants as commands
 use Rattle.pq_cli.specs.declared.commands.task.Task.{Task}
@@ -108,9 +109,9 @@ abbrev pub used_work : Used → Task → Work
 used_work u task = task_work u.meaning u.texts task
 
 abbrev pub work_of : Command → Work
-work_of (commands.Solve kind queue workers nodes capacity) = used_work (used kind) (Solve nodes capacity)
-work_of (commands.Bound kind) = used_work (used kind) Bound
-work_of (commands.Check kind) = used_work (used kind) Check
+work_of (commands.Solve kind branching queue workers nodes capacity) = used_work (used kind branching) (Solve nodes capacity)
+work_of (commands.Bound kind branching) = used_work (used kind branching) Bound
+work_of (commands.Check kind) = used_work (used kind Dispatch) Check
 work_of (commands.Trace queue capacity) = tracing capacity
 work_of (commands.Prove queue workers nodes capacity) = proving nodes capacity
 work_of commands.Verify = verifying

@@ -3,7 +3,7 @@ use Rattle.std.specs.Prelude.{ℕ, ◌≡◌, ◌==◌, ◌⊎◌, false, List, 
 use Rattle.std.specs.List.{AllByRecursion}
 use Rattle.std.specs.Str.{bytes_eq}
 use Rattle.pq_cli.specs.declared.words.settings.Settings.{Settings}
-use Rattle.pq_cli.specs.Words.{kind_of, which_of, number_in, behind_dashes}
+use Rattle.pq_cli.specs.Words.{kind_of, which_of, number_in, branching_of, behind_dashes}
 
 -- a problem's name, or an option's name and its value
 pub data Saying : Type 0 where
@@ -49,7 +49,8 @@ Becomes read words before after = ⊥
 -- the options that there are
 abbrev pub IsOptionName : List ℕ → Type 0
 IsOptionName name =
-    (name ≡ codes "queue") ⊎ ((name ≡ codes "workers") ⊎ ((name ≡ codes "nodes") ⊎ (name ≡ codes "capacity")))
+    (name ≡ codes "queue") ⊎ ((name ≡ codes "workers") ⊎ ((name ≡ codes "nodes") ⊎ ((name ≡ codes "capacity")
+    ⊎ (name ≡ codes "branching"))))
 
 -- each option among these is one that there is
 abbrev pub AreKnown : List Saying → Type 0
@@ -64,6 +65,7 @@ pub record AreSettings (sayings : List Saying) (before after : Settings) : Type 
   pub workers : Becomes number_in (values_of (codes "workers") sayings) before.workers after.workers
   pub nodes : Becomes number_in (values_of (codes "nodes") sayings) before.nodes after.nodes
   pub capacity : Becomes number_in (values_of (codes "capacity") sayings) before.capacity after.capacity
+  pub branching : Becomes branching_of (values_of (codes "branching") sayings) before.branching after.branching
   pub known : AreKnown sayings
 
 -- The words say something, after which the settings are so.

@@ -6,6 +6,8 @@ use Rattle.pq_io.specs.declared.text.fault.Cause.{Cause}
 use Rattle.pq_io.specs.Reading.{number_of}
 use Rattle.pq_cli.specs.declared.command.Kind.{Kind}
 use Rattle.pq_cli.specs.declared.command.Kind.TheVariants.{Knapsack, Shop}
+use Rattle.pq_cli.specs.declared.command.Branching.{Branching}
+use Rattle.pq_cli.specs.declared.command.Branching.TheVariants.{Dispatch, Active}
 use Rattle.pq_cli.specs.declared.command.Which.{Which}
 use Rattle.pq_cli.specs.declared.command.Which.TheVariants.{Plain}
 use Rattle.pq_cli.specs.declared.words.settings.Settings.{Settings}
@@ -26,6 +28,13 @@ abbrev pub kind_of : List ℕ → Option Kind
 kind_of word =
     if bytes_eq word (codes "knapsack") then Some Knapsack
     else if bytes_eq word (codes "shop") then Some Shop
+    else None
+
+-- the branching of this name
+abbrev pub branching_of : List ℕ → Option Branching
+branching_of word =
+    if bytes_eq word (codes "dispatch") then Some Dispatch
+    else if bytes_eq word (codes "active") then Some Active
     else None
 
 -- the queue of this name
@@ -50,6 +59,12 @@ with_kind said word = do
   kind ← kind_of word
   kinds ← once said.kind kind
   Some (record said { kind = kinds })
+
+unfoldable pub with_branching : Settings → List ℕ → Option Settings
+with_branching said value = do
+  branching ← branching_of value
+  branchings ← once said.branching branching
+  Some (record said { branching = branchings })
 
 unfoldable pub with_queue : Settings → List ℕ → Option Settings
 with_queue said value = do
@@ -82,6 +97,7 @@ with_option said name value =
     else if bytes_eq name (codes "workers") then with_workers said value
     else if bytes_eq name (codes "nodes") then with_nodes said value
     else if bytes_eq name (codes "capacity") then with_capacity said value
+    else if bytes_eq name (codes "branching") then with_branching said value
     else None
 
 -- what stands behind two dashes; none where a word does not begin with them
@@ -132,6 +148,10 @@ settings_from said (word ∷ value ∷ words) = after_two (pair_name word)
     (with_lone said word >>= λ s. settings_from s (value ∷ words))
     (λ name. with_option said name value >>= λ s. settings_from s words)
 
+-- no option of a search was said
+abbrev pub is_unlimited : Settings → Bool
+is_unlimited said = is_none said.queue && (is_none said.workers && (is_none said.nodes && is_none said.capacity))
+
 -- no option was said
 abbrev pub is_silent : Settings → Bool
-is_silent said = is_none said.queue && (is_none said.workers && (is_none said.nodes && is_none said.capacity))
+is_silent said = is_none said.branching && is_unlimited said

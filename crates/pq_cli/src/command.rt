@@ -7,6 +7,15 @@ pub enum Kind {
     Shop,
 }
 
+/// How a search branches.
+#[derive(Clone, Copy, Debug, PartialEq, Eq)]
+pub enum Branching {
+    /// As the problem's first way is: a knapsack by its items, a shop by dispatching.
+    Dispatch,
+    /// A shop by active schedules, with bounds over one machine's heads and tails.
+    Active,
+}
+
 /// Which queue a command uses.
 #[derive(Clone, Copy, Debug, PartialEq, Eq)]
 pub enum Which {
@@ -19,6 +28,8 @@ pub enum Command {
     /// Reads an instance, and writes a feasible plan that no feasible plan betters.
     Solve {
         kind: Kind,
+        /// `Dispatch` for a knapsack.
+        branching: Branching,
         queue: Which,
         /// 1 on the plain queue.
         workers: u32,
@@ -30,6 +41,8 @@ pub enum Command {
     /// Reads an instance, and writes the bound of the root.
     Bound {
         kind: Kind,
+        /// `Dispatch` for a knapsack.
+        branching: Branching,
     },
     /// Reads an instance and a plan, and says whether the plan is feasible and its stated number true.
     Check {

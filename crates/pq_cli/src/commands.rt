@@ -21,7 +21,7 @@ mod trace;
 mod verify;
 
 use crate::answer::Answer;
-use crate::command::{Command, Kind};
+use crate::command::{Branching, Command, Kind};
 use crate::commands::audit::audit;
 use crate::commands::bound::bound;
 use crate::commands::check::check;
@@ -33,6 +33,7 @@ use crate::commands::verify::verify;
 use crate::problem::UsedProblem;
 use crate::refusal::Refusal;
 use bb_knap::Knapsack;
+use bb_onemach::ActiveShop;
 use bb_shop::Shop;
 use pq_io::{Source, gather_input};
 use std::alloc::Global;
@@ -58,12 +59,25 @@ fn respond_to(alloc: Global, command: Command, bytes: &[u8]) -> Result<Answer, R
     match command {
         Command::Solve {
             kind,
+            branching,
             nodes,
             capacity,
             ..
-        } => on_problem(alloc, kind, Task::Solve { nodes, capacity }, bytes),
-        Command::Bound { kind } => on_problem(alloc, kind, Task::Bound, bytes),
-        Command::Check { kind } => on_problem(alloc, kind, Task::Check, bytes),
+        } => on_problem(
+            alloc,
+            kind,
+            branching,
+            Task::Solve { nodes, capacity },
+            bytes,
+        ),
+        Command::Bound { kind, branching } => on_problem(
+            alloc,
+            kind,
+            branching,
+            Task::Bound,
+            bytes,
+        ),
+        Command::Check { kind } => on_problem(alloc, kind, Branching::Dispatch, Task::Check, bytes),
         Command::Prove {
             nodes,
             capacity,
@@ -76,13 +90,20 @@ fn respond_to(alloc: Global, command: Command, bytes: &[u8]) -> Result<Answer, R
 }
 
 // The task, done on the problem that is named. A problem has its one line here.
-fn on_problem(alloc: Global, kind: Kind, task: Task, bytes: &[u8]) -> Result<Answer, Refusal>
+fn on_problem(
+    alloc: Global,
+    kind: Kind,
+    branching: Branching,
+    task: Task,
+    bytes: &[u8],
+) -> Result<Answer, Refusal>
     requires { HasTaskLimits task }
-    ensures { Meets (used_work (used kind) task) bytes.now result }
+    ensures { Meets (used_work (used kind branching) task) bytes.now result }
 {
-    match kind {
-        Kind::Knapsack => perform::<Knapsack>(alloc, task, bytes),
-        Kind::Shop => perform::<Shop>(alloc, task, bytes),
+    match (kind, branching) {
+        (Kind::Knapsack, _) => perform::<Knapsack>(alloc, task, bytes),
+        (Kind::Shop, Branching::Dispatch) => perform::<Shop>(alloc, task, bytes),
+        (Kind::Shop, Branching::Active) => perform::<ActiveShop>(alloc, task, bytes),
     }
 }
 

@@ -3,6 +3,8 @@
 ghost use Rattle.std.specs.Prelude.{ℕ, ◌≡◌, List};
 ghost use Rattle.pq_model.specs.declared.marks.Act.{Act};
 ghost use Rattle.pq_model.specs.declared.marks.Mark.{Mark};
+ghost use Rattle.pq_cli.specs.declared.command.Branching.{Branching};
+ghost use Rattle.pq_cli.specs.declared.command.Branching.TheVariants as branchings;
 ghost use Rattle.pq_cli.specs.declared.command.Kind.{Kind};
 ghost use Rattle.pq_cli.specs.declared.command.Kind.TheVariants as kinds;
 ghost use Rattle.pq_cli.specs.Problems.{used, IsCheckable};
@@ -27,10 +29,11 @@ pub fn traces_are_one()
 /// Law: what `solve` answers to an instance, `check` finds feasible behind it: behind any text of the instance that
 /// ends with a line feed, if the two together are not too long for an input.
 pub fn solutions_are_checked()
-    ensures { (kind : Kind) → IsCheckable (used kind) }
+    ensures { (kind : Kind) (branching : Branching) → IsCheckable (used kind branching) }
 {
     solved_choices_are_checked();
     solved_schedules_are_checked();
+    active_schedules_are_checked();
 }
 
 /// Law: what `prove` writes for a knapsack, `verify` answers as proved behind it: behind any text of the knapsack that ends
@@ -48,7 +51,7 @@ pub fn proofs_are_verified()
 
 // Law: the same of a knapsack.
 fn solved_choices_are_checked()
-    ensures { IsCheckable (used kinds.Knapsack) }
+    ensures { (branching : Branching) → IsCheckable (used kinds.Knapsack branching) }
 {
     knapsack_texts_are_read();
     choices_are_read_behind();
@@ -57,9 +60,16 @@ fn solved_choices_are_checked()
 
 // Law: the same of a shop.
 fn solved_schedules_are_checked()
-    ensures { IsCheckable (used kinds.Shop) }
+    ensures { IsCheckable (used kinds.Shop branchings.Dispatch) }
 {
     shop_texts_are_read();
     starts_are_read_behind();
     best_starts_are_early();
+}
+
+// Law: the same of a shop that is branched actively.
+fn active_schedules_are_checked()
+    ensures { IsCheckable (used kinds.Shop branchings.Active) }
+{
+    solved_schedules_are_checked();
 }

@@ -17,7 +17,7 @@ mod status;
 mod tests;
 mod words;
 
-pub use command::{Command, Kind, Which};
+pub use command::{Branching, Command, Kind, Which};
 pub use laws::{proofs_are_verified, solutions_are_checked, traces_are_one};
 pub use reporting::report;
 pub use run::run_still;

@@ -2,8 +2,9 @@
 
 ghost use Rattle.std.specs.Prelude.{◌≡◌, IfOk};
 ghost use Rattle.bb_shop.specs.Plans.{AreShaped};
+ghost use Rattle.pq_cli.specs.Answers.{status_in, text_in, IsWritable};
 ghost use Rattle.pq_cli.specs.Statuses.{IsAnswered};
-ghost use Rattle.pq_cli.specs.Problems.ShopTexts.{texts, verdict_text, verdict_status};
+ghost use Rattle.pq_cli.specs.Problems.ShopTexts.{texts, IsJudged, verdict_text, verdict_status};
 
 use crate::answer::Answer;
 use crate::labelled::labelled;
@@ -37,12 +38,21 @@ impl UsedProblem for Shop {
     }
 
     fn judge(&self, alloc: Global, claimed: &Claimed<Starts>) -> Result<Answer, NoMemory> {
-        let verdict = self.judge(&claimed.plan, claimed.stated);
-        Ok(Answer::Text {
-            status: verdict_status(verdict),
-            text: verdict_text(alloc, claimed.stated, verdict)?,
-        })
+        judged(alloc, self, claimed)
     }
+}
+
+/// The verdict on start times and the makespan that is stated for them.
+pub fn judged(alloc: Global, shop: &Shop, claimed: &Claimed<Starts>) -> Result<Answer, NoMemory>
+    requires { AreShaped shop.now claimed.now.plan }
+    ensures judged { IfOk result (λ a. IsJudged shop.now claimed.now (status_in a) (text_in a)) }
+    ensures answered { IfOk result (λ a. IsAnswered (status_in a) × IsWritable a) }
+{
+    let verdict = shop.judge(&claimed.plan, claimed.stated);
+    Ok(Answer::Text {
+        status: verdict_status(verdict),
+        text: verdict_text(alloc, claimed.stated, verdict)?,
+    })
 }
 
 // The status that a verdict ends with.

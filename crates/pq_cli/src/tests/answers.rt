@@ -12,6 +12,9 @@ const WRONG_ORDER: &str = "seats 1 capacity 4\n0 1 + 5 1 done\n1 1 + 3 2 done\n\
 
 const THREE_BY_THREE: &str = "3 3\n0 3 1 2 2 2\n0 2 2 1 1 4\n1 4 2 3 0 0\n";
 
+// On machine 1 the first two jobs have head 5, time 5 and tail 5.
+const TWO_ON_ONE: &str = "3 3\n0 5 1 5 2 5\n2 5 1 5 0 5\n1 1 0 0 2 0\n";
+
 const GOOD_CHOICE: &str = "3 5\n2 3\n3 4\n4 5\nvalue 7\nitems 0 1\n";
 
 const EARLY_START: &str = "3 3\n0 3 1 2 2 2\n0 2 2 1 1 4\n1 4 2 3 0 0\n\
@@ -40,6 +43,12 @@ fn answers_inputs(rt: HostRuntime) -> Result<(), Fail> {
         ),
         ("bound knapsack", THREE_ITEMS, Status::Ok, "bound 7\n"),
         ("bound shop", THREE_BY_THREE, Status::Ok, "bound 10\n"),
+        (
+            "bound shop --branching=active",
+            TWO_ON_ONE,
+            Status::Ok,
+            "bound 20\n",
+        ),
         ("check knapsack", GOOD_CHOICE, Status::Ok, "feasible 7\n"),
         (
             "check shop",

@@ -2,11 +2,11 @@
 
 ghost use Rattle.std.specs.Prelude.{◌≡◌, ◌==◌, ◌<◌, length, position, IfSome};
 ghost use Rattle.std.specs.Option.{option_map};
-ghost use Rattle.pq_cli.specs.Words.{kind_of, which_of, number_in, once, with_kind, with_queue, with_workers};
+ghost use Rattle.pq_cli.specs.Words.{kind_of, branching_of, which_of, number_in, once, with_kind, with_branching, with_queue, with_workers};
 ghost use Rattle.pq_cli.specs.Words.{with_nodes, with_capacity, with_option, with_lone, behind_dashes, split_at_equals};
 ghost use Rattle.pq_cli.specs.Words.{pair_name};
 
-use crate::command::{Kind, Which};
+use crate::command::{Branching, Kind, Which};
 use crate::words::settings::Settings;
 use pq_io::digits;
 
@@ -18,6 +18,19 @@ fn kind_of(word: &[u8]) -> Option<Kind>
         Some(Kind::Knapsack)
     } else if word == b"shop".as_slice() {
         Some(Kind::Shop)
+    } else {
+        None
+    }
+}
+
+// The branching of this name.
+fn branching_of(word: &[u8]) -> Option<Branching>
+    ensures { result ≡ branching_of word.now }
+{
+    if word == b"dispatch".as_slice() {
+        Some(Branching::Dispatch)
+    } else if word == b"active".as_slice() {
+        Some(Branching::Active)
     } else {
         None
     }
@@ -65,6 +78,14 @@ fn with_kind(said: Settings, word: &[u8]) -> Option<Settings>
     Some(Settings { kind, ..said })
 }
 
+#[tactic(auto, unfolding(crate::specs::Words::with_branching))]
+fn with_branching(said: Settings, value: &[u8]) -> Option<Settings>
+    ensures { result ≡ with_branching said value.now }
+{
+    let branching = once(said.branching, branching_of(value)?)?;
+    Some(Settings { branching, ..said })
+}
+
 #[tactic(auto, unfolding(crate::specs::Words::with_queue))]
 fn with_queue(said: Settings, value: &[u8]) -> Option<Settings>
     ensures { result ≡ with_queue said value.now }
@@ -110,6 +131,8 @@ pub fn with_option(said: Settings, name: &[u8], value: &[u8]) -> Option<Settings
         with_nodes(said, value)
     } else if name == b"capacity".as_slice() {
         with_capacity(said, value)
+    } else if name == b"branching".as_slice() {
+        with_branching(said, value)
     } else {
         None
     }

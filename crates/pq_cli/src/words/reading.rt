@@ -1,11 +1,11 @@
 //! All words: the name of a command, and what stands behind it.
 
 ghost use Rattle.std.specs.Prelude.{◌≡◌, ◌<◌, ◌≤◌, [], ◌∷◌, length, IfOk, IfSome, MatchOption};
-ghost use Rattle.pq_cli.specs.Words.{settings_from, is_silent};
-ghost use Rattle.pq_cli.specs.CommandWords.{HasLimits, answer_of, command_of, texts, within, solve_from, kind_alone};
+ghost use Rattle.pq_cli.specs.Words.{settings_from, is_unlimited, is_silent};
+ghost use Rattle.pq_cli.specs.CommandWords.{HasLimits, answer_of, command_of, texts, within, branching_for, solve_from, kind_alone};
 ghost use Rattle.pq_cli.specs.CommandWords.{bound_from, check_from, prove_from, verify_from, trace_from, audit_from};
 
-use crate::command::{Command, Kind};
+use crate::command::{Branching, Command, Kind};
 use crate::words::options::{pair_name, with_lone, with_option};
 use crate::words::settings::Settings;
 use bb_pool::MAX_NODES;
@@ -109,6 +109,7 @@ fn solve_from(said: Settings) -> Option<Command>
     ensures limits { IfSome result HasLimits }
 {
     let kind = said.kind?;
+    let branching = branching_for(kind, said.branching)?;
     let queue = said.queue?;
     let workers = within(1, 1, said.workers.unwrap_or(1))?;
     let nodes = within(1, u64::from(MAX_NODES), said.nodes.unwrap_or(DEFAULT_NODES))?;
@@ -119,6 +120,7 @@ fn solve_from(said: Settings) -> Option<Command>
     )?;
     Some(Command::Solve {
         kind,
+        branching,
         queue,
         workers: workers as u32,
         nodes: nodes as u32,
@@ -126,9 +128,27 @@ fn solve_from(said: Settings) -> Option<Command>
     })
 }
 
+// Only a shop has two ways to branch; where none is said, it is by dispatching.
+fn branching_for(kind: Kind, said: Option<Branching>) -> Option<Branching>
+    ensures { result ≡ branching_for kind said }
+{
+    match (kind, said) {
+        (Kind::Shop, said) => Some(said.unwrap_or(Branching::Dispatch)),
+        (Kind::Knapsack, None) => Some(Branching::Dispatch),
+        (Kind::Knapsack, Some(_)) => None,
+    }
+}
+
 // No option was said.
 fn is_silent(said: &Settings) -> bool
     ensures { result ≡ is_silent said.now }
+{
+    said.branching.is_none() && is_unlimited(said)
+}
+
+// No option of a search was said.
+fn is_unlimited(said: &Settings) -> bool
+    ensures { result ≡ is_unlimited said.now }
 {
     said.queue.is_none()
         && said.workers.is_none()
@@ -150,8 +170,13 @@ fn bound_from(said: Settings) -> Option<Command>
     ensures exact { result ≡ bound_from said }
     ensures limits { IfSome result HasLimits }
 {
-    let kind = kind_alone(said)?;
-    Some(Command::Bound { kind })
+    let kind = said.kind?;
+    let branching = branching_for(kind, said.branching)?;
+    if is_unlimited(&said) {
+        Some(Command::Bound { kind, branching })
+    } else {
+        None
+    }
 }
 
 #[tactic(auto, unfolding(crate::specs::CommandWords::check_from))]
@@ -170,6 +195,7 @@ fn prove_from(said: Settings) -> Option<Command>
     match solve_from(said)? {
         Command::Solve {
             kind: Kind::Knapsack,
+            branching: _,
             queue,
             workers,
             nodes,
@@ -203,7 +229,11 @@ fn trace_from(said: Settings) -> Option<Command>
     let queue = said.queue?;
     let capacity = said.capacity.unwrap_or(DEFAULT_CAPACITY);
     let capacity = within(1, u64::from(MAX_CAPACITY), capacity)?;
-    if said.kind.is_none() && said.workers.is_none() && said.nodes.is_none() {
+    if said.kind.is_none()
+        && said.branching.is_none()
+        && said.workers.is_none()
+        && said.nodes.is_none()
+    {
         Some(Command::Trace {
             queue,
             capacity: capacity as u32,

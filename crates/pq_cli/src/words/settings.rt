@@ -1,11 +1,12 @@
 //! What the words have said so far.
 
-use crate::command::{Kind, Which};
+use crate::command::{Branching, Kind, Which};
 
 /// What the words behind a command's name have said so far.
 #[derive(Clone, Copy, Debug)]
 pub struct Settings {
     pub kind: Option<Kind>,
+    pub branching: Option<Branching>,
     pub queue: Option<Which>,
     pub workers: Option<u64>,
     pub nodes: Option<u64>,
@@ -15,6 +16,7 @@ pub struct Settings {
 impl Settings {
     pub const NONE: Settings = Settings {
         kind: None,
+        branching: None,
         queue: None,
         workers: None,
         nodes: None,

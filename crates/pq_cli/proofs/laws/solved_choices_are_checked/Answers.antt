@@ -7,7 +7,7 @@ use Rattle.bb_knap.specs.declared.verdict.KnapVerdict.TheVariants.{Feasible}
 use Rattle.pq_cli.proofs.laws.solved_choices_are_checked.Goals as goal
 
 pub returns : goal.returns
-returns c = λ bytes text s size.
+returns c = λ branching bytes text s size.
     let i = s.instance in
     let value : ℕ = value_of i.items s.plan in
     let claimed : Claimed (List ℕ) = record { stated = value; plan = s.plan } in
