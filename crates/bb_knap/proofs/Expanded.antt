@@ -4,7 +4,7 @@ use Rattle.std.specs.Prelude.{min}
 use Rattle.std.proofs.lemmas.Bool.{le-leb, lt-leb}
 use Rattle.std.proofs.lemmas.List.{length_push}
 use Rattle.inst_text.specs.declared.knapsack.Item.{Item}
-use Rattle.inst_text.specs.Limits.{total_limit}
+use Rattle.inst_text.specs.Limits.{max_total}
 use Rattle.inst_text.specs.Knapsack.{Instance, IsInstance}
 use Rattle.bb_problem.specs.Expanding.{StandBelow}
 use Rattle.bb_knap.specs.Plans.{item_at, weight_of, value_of, IsFeasible, cost_of}
@@ -54,14 +54,14 @@ leaves_next i name inside =
     ap (λ ks. taken ks (0 ∷ [])) (next_is i name inside) ∙ taken-left (next_of i name) (drop (length name + 1) (order_of i.items)) []
     ∙ taken-none (drop (length name + 1) (order_of i.items))
 
-small_min : (n m : ℕ) → n ≤ total_limit → m ≡ min n 4294967295 → m ≡ n
+small_min : (n m : ℕ) → n ≤ max_total → m ≡ min n 4294967295 → m ≡ n
 small_min n m le e = omega (arith, le, e)
 
 -- what the child that takes the next item is worth
 value_taking : (i : Instance) (node : Node) (name : List ℕ) → Stands i node name → length name < length i.items → value_of i.items (taken_of i (name ++ 1 ∷ [])) ≡ node.value + (item_at i.items (next_of i name)).value
 value_taking i node name s inside = omega (arith, value_of-more i name (1 ∷ []), ap (value_of i.items) (takes_next i name inside), s.value)
 
-pub small_taking : (i : Instance) (node : Node) (name : List ℕ) → IsInstance i → Stands i node name → length name < length i.items → node.value + (item_at i.items (next_of i name)).value ≤ total_limit
+pub small_taking : (i : Instance) (node : Node) (name : List ℕ) → IsInstance i → Stands i node name → length name < length i.items → node.value + (item_at i.items (next_of i name)).value ≤ max_total
 small_taking i node name limits s inside =
     omega (arith, value_taking i node name s inside, value_of-taken-le i.items (order_of i.items) (name ++ 1 ∷ []), value_of-order i.items, limits.values)
 

@@ -10,7 +10,7 @@ use Rattle.std.proofs.Math.Seq.{drop-cons, take-add}
 use Rattle.std.proofs.Math.Nat.{div-le_of_le-mul, mul-le-mul_right}
 use Rattle.std.proofs.Math.ListN.{drop_of_length-le}
 use Rattle.inst_text.specs.declared.knapsack.Item.{Item}
-use Rattle.inst_text.specs.Limits.{item_limit, weight_limit, total_limit}
+use Rattle.inst_text.specs.Limits.{max_items, max_weight, max_total}
 use Rattle.inst_text.specs.Knapsack.{Instance, IsInstance, AreNumbers, total_value}
 use Rattle.bb_knap.specs.Plans.{item_at, weight_of, value_of}
 use Rattle.bb_knap.specs.Order.{order_of}
@@ -42,13 +42,13 @@ value_of-take-le items (k ∷ ks) zero = omega arith
 value_of-take-le items (k ∷ ks) (suc i) = omega (arith, value_of-take-le items ks i)
 
 -- each item is light
-item_weight-le : (items : List Item) (k : ℕ) → AllByRecursion (λ (j : Item). j.weight ≤ weight_limit) items → (item_at items k).weight ≤ weight_limit
+item_weight-le : (items : List Item) (k : ℕ) → AllByRecursion (λ (j : Item). j.weight ≤ max_weight) items → (item_at items k).weight ≤ max_weight
 item_weight-le [] zero light = omega arith
 item_weight-le [] (suc k) light = omega arith
 item_weight-le (i ∷ is) zero light = light.0
 item_weight-le (i ∷ is) (suc k) light = item_weight-le is k (light.1)
 
-weight_of-le : (items : List Item) (ks : List ℕ) → AllByRecursion (λ (j : Item). j.weight ≤ weight_limit) items → weight_of items ks ≤ weight_limit * length ks
+weight_of-le : (items : List Item) (ks : List ℕ) → AllByRecursion (λ (j : Item). j.weight ≤ max_weight) items → weight_of items ks ≤ max_weight * length ks
 weight_of-le items [] light = omega arith
 weight_of-le items (k ∷ ks) light = omega (arith, item_weight-le items k light, weight_of-le items ks light)
 
@@ -57,8 +57,8 @@ length-numbers low n [] numbers = omega arith
 length-numbers low n (k ∷ ks) numbers = omega (arith, numbers.0, numbers.1, length-numbers (k + 1) n ks numbers.2)
 
 -- a choice weighs little
-pub weight_of-numbers-le : (items : List Item) (ks : List ℕ) → AreNumbers 0 item_limit ks → AllByRecursion (λ (j : Item). j.weight ≤ weight_limit) items → weight_of items ks ≤ weight_sum_limit
-weight_of-numbers-le items ks numbers light = omega (arith, weight_of-le items ks light, length-numbers 0 item_limit ks numbers)
+pub weight_of-numbers-le : (items : List Item) (ks : List ℕ) → AreNumbers 0 max_items ks → AllByRecursion (λ (j : Item). j.weight ≤ max_weight) items → weight_of items ks ≤ weight_sum_limit
+weight_of-numbers-le items ks numbers light = omega (arith, weight_of-le items ks light, length-numbers 0 max_items ks numbers)
 
 -- the weight of the numbers from one place on: that of the number there, and of those behind it
 pub weight_of-drop : (items : List Item) (ks : List ℕ) (i : ℕ) → i < length ks → weight_of items (drop i ks) ≡ (item_at items (get_or ks i 0)).weight + weight_of items (drop (i + 1) ks)
@@ -82,7 +82,7 @@ value_of-order items =
     value_of-total items (order_of items) ∙ total-order_below (λ k. (item_at items k).value) items (length items)
     ∙ omega (arith, sum_below-drop items (length items), ap total_value none)
 
-pub value_of-order-le : (i : Instance) (k : ℕ) → IsInstance i → value_of i.items (take k (order_of i.items)) ≤ total_limit
+pub value_of-order-le : (i : Instance) (k : ℕ) → IsInstance i → value_of i.items (take k (order_of i.items)) ≤ max_total
 value_of-order-le i k limits = omega (arith, value_of-take-le i.items (order_of i.items) k, value_of-order i.items, limits.values)
 
 -- where all items fit

@@ -3,7 +3,7 @@ use Rattle.std.proofs.Common.{◌≡◌, ℕ, suc, ◌+◌, ◌-◌, ◌<◌, �
 use Rattle.std.proofs.lemmas.List.{append_assoc, append-nil, take_more, take-append-drop, get_or-drop, length-drop, length-take-le, length_push}
 use Rattle.std.specs.Prelude.{IsTrue, ◌↔◌, leb}
 use Rattle.std.proofs.lemmas.Bool.{cases_lt, leb-true, le-leb}
-use Rattle.inst_text.specs.Limits.{total_limit}
+use Rattle.inst_text.specs.Limits.{max_total}
 use Rattle.inst_text.specs.Knapsack.{Instance, IsInstance, total_value}
 use Rattle.bb_problem.specs.Tree.{below}
 use Rattle.bb_knap.specs.Plans.{item_at, weight_of, value_of}
@@ -219,7 +219,7 @@ leads_leaving i path room value s inside =
     let P : List ℕ → Type 0 = λ ds. Stands i child ds in
     subst P (sym more) (stands_leaving i (node_at path room value) child (decisions path) s (omega (arith, length-decisions path, inside)) more refl refl)
 
-pub small_at : (i : Instance) (path : List Bool) (room value : ℕ) → IsInstance i → LeadsTo i path room value → length path < length i.items → value + (item_at i.items (get_or (order_of i.items) (length path) 0)).value ≤ total_limit
+pub small_at : (i : Instance) (path : List Bool) (room value : ℕ) → IsInstance i → LeadsTo i path room value → length path < length i.items → value + (item_at i.items (get_or (order_of i.items) (length path) 0)).value ≤ max_total
 small_at i path room value limits s inside =
     let depth : length path ≡ length (decisions path) = sym (length-decisions path) in
     omega (arith, small_taking i (node_at path room value) (decisions path) limits s (omega (arith, depth, inside)), ap (λ d. (item_at i.items (get_or (order_of i.items) d 0)).value) depth)

@@ -1,13 +1,13 @@
 -- Decisions kept as the bits of words.
 use Rattle.std.specs.Prelude.{ℕ, zero, suc, ◌≡◌, ◌<◌, ◌≤◌, ◌/◌, ◌%◌, ◌^◌}
 use Rattle.std.specs.Prelude.{List, [], ◌∷◌, ◌++◌, length, take}
-use Rattle.inst_text.specs.Limits.{item_limit}
+use Rattle.inst_text.specs.Limits.{max_items}
 use Rattle.bb_knap.specs.declared.full_words.FullWords.{FullWords}
 use Rattle.bb_knap.specs.declared.full_words.FullWords.TheVariants.{Zero, One, More}
 
 -- how many words hold a decision on each item
 abbrev pub word_limit : ℕ
-word_limit = item_limit / 64
+word_limit = max_items / 64
 
 -- a word's n lowest bits, the highest first
 unfoldable pub word_bits : ℕ → ℕ → List ℕ
@@ -39,4 +39,4 @@ decisions_in full last count = all_bits (take (count / 64) (words_of full)) ++ w
 pub record AreDecisions (words : FullWords) (part count : ℕ) : Type 0 where
   pub full : IsFullWords (count / 64) words
   pub last : part < 2 ^ (count % 64)
-  pub few : count ≤ item_limit
+  pub few : count ≤ max_items

@@ -2,7 +2,7 @@
 
 ghost use Rattle.std.specs.Prelude.{◌≡◌, ◌+◌, ◌<◌, ◌≤◌, drop, length, slice_index};
 ghost use Rattle.std.specs.List.Sorted.{IsNonDecreasing};
-ghost use Rattle.inst_text.specs.Limits.{capacity_limit, total_limit};
+ghost use Rattle.inst_text.specs.Limits.{max_knapsack_capacity, max_total};
 ghost use Rattle.bb_knap.specs.Plans.{weight_of, value_of};
 ghost use Rattle.bb_knap.specs.Branching.{dantzig};
 ghost use Rattle.bb_knap.specs.Sums.{AreSums, weight_sum_limit};
@@ -37,9 +37,9 @@ pub fn dantzig_from(
     requires weights { AreSums (weight_of items.now) order.now weights.now }
     requires values { AreSums (value_of items.now) order.now values.now }
     requires light { weight_of items.now order.now ≤ weight_sum_limit }
-    requires small { value_of items.now order.now ≤ total_limit }
+    requires small { value_of items.now order.now ≤ max_total }
     requires from { from ≤ length order.now }
-    requires room { room ≤ capacity_limit }
+    requires room { room ≤ max_knapsack_capacity }
     ensures { result ≡ dantzig items.now room (drop from order.now) }
 {
     let limit = weights[from] + room;

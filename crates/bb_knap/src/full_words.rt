@@ -3,12 +3,12 @@
 ghost use Rattle.std.specs.Prelude.{ℕ, ◌≡◌, ◌<◌, ◌+◌, [], ◌∷◌, ◌++◌, length, take, slice_index, IfOk};
 ghost use Rattle.bb_knap.specs.Decisions.{word_limit, words_of, IsFullWords};
 
-use inst_text::ITEM_LIMIT;
+use inst_text::MAX_ITEMS;
 use pq_io::NoMemory;
 use std::alloc::Global;
 
 /// How many words hold a decision on each item.
-const WORDS: usize = ITEM_LIMIT as usize / 64;
+const WORDS: usize = MAX_ITEMS as usize / 64;
 
 /// The words that are full of decisions: none, one in place, or more on the heap, of which the first are in use.
 #[derive(Debug, Drop)]

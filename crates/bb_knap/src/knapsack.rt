@@ -1,7 +1,7 @@
 //! The knapsack problem: its instance, and what is kept beside it.
 
 ghost use Rattle.std.specs.Prelude.{◌≡◌, ◌-◌, ◌≤◌, drop, length, IfOk};
-ghost use Rattle.inst_text.specs.Limits.{capacity_limit};
+ghost use Rattle.inst_text.specs.Limits.{max_knapsack_capacity};
 ghost use Rattle.inst_text.specs.Knapsack.{IsInstance, total_value};
 ghost use Rattle.bb_knap.specs.Plans.{IsChoiceOf, weight_of, value_of, cost_of};
 ghost use Rattle.bb_knap.specs.Verdicts.{IsVerdict};
@@ -149,7 +149,7 @@ impl Knapsack {
     /// this room. O(log n).
     pub(crate) fn bound_at(&self, from: usize, room: u64, value: u32) -> u32
         requires from { from ≤ length self.now.items }
-        requires room { room ≤ capacity_limit }
+        requires room { room ≤ max_knapsack_capacity }
         ensures { result ≡ total_value self.now.items - value
             - dantzig self.now.items room (drop from (order_of self.now.items)) }
     {
@@ -162,7 +162,7 @@ impl Knapsack {
     /// fit, and of the first that does not fit the part that fills the room, rounded down. O(log n).
     pub(crate) fn dantzig(&self, from: usize, room: u64) -> u32
         requires from { from ≤ length self.now.items }
-        requires room { room ≤ capacity_limit }
+        requires room { room ≤ max_knapsack_capacity }
         ensures { result ≡ dantzig self.now.items room (drop from (order_of self.now.items)) }
     {
         let items = self.items();

@@ -2,7 +2,7 @@
 
 ghost use Rattle.std.specs.Prelude.{◌≡◌, ◌+◌, ◌-◌, ◌/◌, ◌%◌, ◌<◌, ◌≤◌, ◌^◌, nat_lt, [], ◌∷◌, ◌++◌};
 ghost use Rattle.std.specs.Prelude.{length, slice_index, min, if◌then◌else◌, IfOk};
-ghost use Rattle.inst_text.specs.Limits.{item_limit, capacity_limit};
+ghost use Rattle.inst_text.specs.Limits.{max_items, max_knapsack_capacity};
 ghost use Rattle.bb_knap.specs.Branching.{Node};
 
 use crate::full_words::FullWords;
@@ -26,7 +26,7 @@ pub struct KnapNode {
 
 impl Model for KnapNode {
     ghost use Rattle.std.specs.Prelude.{◌≤◌};
-    ghost use Rattle.inst_text.specs.Limits.{capacity_limit};
+    ghost use Rattle.inst_text.specs.Limits.{max_knapsack_capacity};
     ghost use Rattle.bb_knap.specs.Branching.{Node};
     ghost use Rattle.bb_knap.specs.Decisions.{decisions_in, AreDecisions};
 
@@ -34,13 +34,13 @@ impl Model for KnapNode {
 
     ghost view = { λ n. record { decisions = decisions_in n.full n.last n.count; room = n.room; value = n.value } };
 
-    ghost invariant = { λ n. AreDecisions n.full n.last n.count × (n.room ≤ capacity_limit) };
+    ghost invariant = { λ n. AreDecisions n.full n.last n.count × (n.room ≤ max_knapsack_capacity) };
 }
 
 impl KnapNode {
     /// The node that decides nothing yet, with this room. Constant time.
     pub(crate) fn root(room: u64) -> KnapNode
-        requires { room ≤ capacity_limit }
+        requires { room ≤ max_knapsack_capacity }
         ensures { result ≡ record { decisions = []; room = room; value = 0 } }
     {
         KnapNode {
@@ -55,7 +55,7 @@ impl KnapNode {
     /// How many items are decided, at most 1,024. Constant time.
     pub(crate) fn depth(&self) -> usize
         ensures depth { result ≡ length self.now.decisions }
-        ensures few { result ≤ item_limit }
+        ensures few { result ≤ max_items }
     {
         self.count as usize
     }
@@ -75,7 +75,7 @@ impl KnapNode {
     /// The room that is left, at most 1,000,000,000,000. Constant time.
     pub(crate) fn room(&self) -> u64
         ensures room { result ≡ self.now.room }
-        ensures within { result ≤ capacity_limit }
+        ensures within { result ≤ max_knapsack_capacity }
     {
         self.room
     }
@@ -89,7 +89,7 @@ impl KnapNode {
 
     /// The child that takes the next item, this one, which fits. Constant time; up to 127 decisions it takes no memory.
     pub(crate) fn taking(&self, alloc: Global, item: Item) -> Result<KnapNode, NoMemory>
-        requires depth { length self.now.decisions < item_limit }
+        requires depth { length self.now.decisions < max_items }
         requires fits { item.weight ≤ self.now.room }
         ensures { IfOk result (λ child. child ≡ record {
           decisions = self.now.decisions ++ 1 ∷ [];
@@ -109,7 +109,7 @@ impl KnapNode {
 
     /// The child that leaves the next item. Constant time; up to 127 decisions it takes no memory.
     pub(crate) fn leaving(self, alloc: Global) -> Result<KnapNode, NoMemory>
-        requires { length self.decisions < item_limit }
+        requires { length self.decisions < max_items }
         ensures { IfOk result (λ child. child ≡ record self { decisions = self.decisions ++ 0 ∷ [] }) }
     {
         self.deciding(alloc, false)
@@ -117,7 +117,7 @@ impl KnapNode {
 
     // The same node with one decision more.
     fn deciding(self, alloc: Global, taken: bool) -> Result<KnapNode, NoMemory>
-        requires { length self.decisions < item_limit }
+        requires { length self.decisions < max_items }
         ensures { IfOk result (λ child. child ≡
             record self { decisions = self.decisions ++ (if taken then 1 else 0) ∷ [] }) }
     {

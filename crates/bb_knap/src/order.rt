@@ -2,7 +2,7 @@
 
 ghost use Rattle.std.specs.Prelude.{◌≡◌, ◌≤◌, length, IfOk};
 ghost use Rattle.std.specs.Ordering.{is_lt};
-ghost use Rattle.inst_text.specs.Limits.{item_limit};
+ghost use Rattle.inst_text.specs.Limits.{max_items};
 ghost use Rattle.bb_knap.specs.Plans.{item_at};
 ghost use Rattle.bb_knap.specs.Order.{is_denser, goes_before, order_of};
 
@@ -57,7 +57,7 @@ fn compared(items: &[Item], first: u32, second: u32) -> Ordering
 
 /// The numbers of the items in the order in which a search decides on them. O(n log n).
 pub fn item_order(alloc: Global, items: &[Item]) -> Result<Vec<u32>, NoMemory>
-    requires { length items.now ≤ item_limit }
+    requires { length items.now ≤ max_items }
     ensures { IfOk result (λ order. order.items ≡ order_of items.now) }
 {
     let mut order = Vec::new(alloc);

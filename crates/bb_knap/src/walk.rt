@@ -27,14 +27,14 @@ pub struct KnapWalk<'a> {
 
 impl<'a> Model for KnapWalk<'a> {
     ghost use Rattle.std.specs.Prelude.{◌≤◌};
-    ghost use Rattle.inst_text.specs.Limits.{capacity_limit};
+    ghost use Rattle.inst_text.specs.Limits.{max_knapsack_capacity};
     ghost use Rattle.bb_knap.specs.Walking.{Walk, LeadsTo, pending_at};
 
     ghost Value = { Walk };
 
     ghost view = { λ w. record { instance = w.knapsack.now; pending = pending_at w.over w.path.items } };
 
-    ghost invariant = { λ w. LeadsTo w.knapsack.now w.path.items w.room w.value × (w.room ≤ capacity_limit) };
+    ghost invariant = { λ w. LeadsTo w.knapsack.now w.path.items w.room w.value × (w.room ≤ max_knapsack_capacity) };
 }
 
 // The last place of the path at which it takes an item.

@@ -5,7 +5,7 @@ use Rattle.std.proofs.lemmas.List.{length-append}
 use Rattle.pq_io.specs.Inputs.{longest_input}
 use Rattle.pq_io.specs.Writing.{words_text, lines_text, lines_from, IsPlainWord, IsPlainLine}
 use Rattle.pq_io.proofs.Plain.{decimal_plain, decimal_digits}
-use Rattle.inst_text.specs.Limits.{stated_limit}
+use Rattle.inst_text.specs.Limits.{max_stated}
 use Rattle.inst_text.specs.declared.plan.Claimed.{Claimed}
 use Rattle.inst_text.specs.Knapsack.{Instance, IsInstance, AreNumbers, SpellKnapsack, IsKnapsackText, knapsack_lines, knapsack_text, choice_lines}
 use Rattle.inst_text.specs.Plans.{SpellChoice}
@@ -78,7 +78,7 @@ proved_written n c tokens v w =
       short = omega (arith, ap length (lines_text-append ls ks), length-append (lines_text ls) (lines_text ks), v.short, w.short);
     }
 
-pub proof_text_is_read : (i : Instance) (c : Claimed (List ℕ)) (tokens : List Bool) → IsInstance i → c.stated ≤ stated_limit → AreNumbers 0 (length i.items) c.plan
+pub proof_text_is_read : (i : Instance) (c : Claimed (List ℕ)) (tokens : List Bool) → IsInstance i → c.stated ≤ max_stated → AreNumbers 0 (length i.items) c.plan
     → 1 ≤ length tokens → length tokens ≤ proof_limit → proof_of (knapsack_text i ++ proof_text c tokens) ≡ Ok (i, (c, tokens))
 proof_text_is_read i c tokens limits stated are some few =
     let v = instance_written i limits in
@@ -95,7 +95,7 @@ proof_text_is_read i c tokens limits stated are some few =
     })
 
 -- behind any text of the instance
-pub proof_behind_is_read : (bytes : List ℕ) (i : Instance) (c : Claimed (List ℕ)) (tokens : List Bool) → IsKnapsackText (bytes ++ 10 ∷ []) i → c.stated ≤ stated_limit → AreNumbers 0 (length i.items) c.plan
+pub proof_behind_is_read : (bytes : List ℕ) (i : Instance) (c : Claimed (List ℕ)) (tokens : List Bool) → IsKnapsackText (bytes ++ 10 ∷ []) i → c.stated ≤ max_stated → AreNumbers 0 (length i.items) c.plan
     → 1 ≤ length tokens → length tokens ≤ proof_limit → length (bytes ++ 10 ∷ proof_text c tokens) ≤ longest_input → proof_of (bytes ++ 10 ∷ proof_text c tokens) ≡ Ok (i, (c, tokens))
 proof_behind_is_read bytes i c tokens text stated are some few size =
     let w = proved_written (length i.items) c tokens (choice_written (length i.items) c text.limits.count stated are) (proof_written tokens few) in

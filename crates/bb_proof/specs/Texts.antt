@@ -10,7 +10,7 @@ use Rattle.pq_io.specs.Inputs.{longest_input}
 use Rattle.pq_io.specs.Lines.{Line, Text, text_of}
 use Rattle.pq_io.specs.Reading.{◌>>=◌, Read, word_at, number_at, after_word, at_line_end, line_at}
 use Rattle.pq_io.specs.Writing.{lines_text}
-use Rattle.inst_text.specs.Limits.{stated_limit}
+use Rattle.inst_text.specs.Limits.{max_stated}
 use Rattle.inst_text.specs.declared.plan.Claimed.{Claimed}
 use Rattle.inst_text.specs.Several.{several, EachLine, Follow, both, whole}
 use Rattle.inst_text.specs.Knapsack.{Instance, IsInstance, AreNumbers, SpellKnapsack, instance_at, choice_lines}
@@ -78,7 +78,7 @@ pub record IsProofText (bytes : List ℕ) (i : Instance) (c : Claimed (List ℕ)
   pub size : length bytes ≤ longest_input
   pub lines : Follow SpellKnapsack SpellProved (text_of bytes).lines i (c, tokens)
   pub limits : IsInstance i
-  pub stated : c.stated ≤ stated_limit
+  pub stated : c.stated ≤ max_stated
   pub shape : AreNumbers 0 (length i.items) c.plan
   pub some : 1 ≤ length tokens
   pub few : length tokens ≤ proof_limit

@@ -13,7 +13,7 @@ use Rattle.pq_model.specs.declared.marks.Act.{Act}
 use Rattle.pq_model.specs.declared.marks.Act.TheVariants.{Insert, Remove}
 use Rattle.inst_text.specs.declared.knapsack.Item.{Item}
 use Rattle.inst_text.specs.declared.shop.Operation.{Operation}
-use Rattle.inst_text.specs.Limits.{item_limit, weight_limit, operation_limit, lane_limit, made_shop_limit, made_lane_limit}
+use Rattle.inst_text.specs.Limits.{max_items, max_weight, max_operations, max_lanes, max_made_shop, max_made_inserts}
 use Rattle.inst_text.specs.Knapsack.{IsInstance, total_value}
 use Rattle.inst_text.specs.Shop.{IsJobShop, row_time, rows_time}
 use Rattle.inst_text.specs.Script.{IsCommand, IsScript, command_count}
@@ -44,7 +44,7 @@ pub weight_more : (seed n : ℕ) → sum_by (λ (i : Item). i.weight) (made_item
 weight_more seed n = sum_by-map-range_with_len_more (λ (i : Item). i.weight) (λ i. item_from (state_after seed (2 * i))) 0 n n (omega arith)
 
 record AreLight (n : ℕ) (items : List Item) : Type 0 where
-  weights : AllByRecursion (λ (j : Item). j.weight ≤ weight_limit) items
+  weights : AllByRecursion (λ (j : Item). j.weight ≤ max_weight) items
   weight : sum_by (λ (i : Item). i.weight) items ≤ 100 * n
   value : total_value items ≤ 100 * n
 
@@ -60,7 +60,7 @@ items_light f a (suc n) =
       value = omega (arith, v, rest.value);
     }
 
-pub knapsack_fits : (seed size : ℕ) → size ≤ item_limit → IsInstance (made_knapsack seed size)
+pub knapsack_fits : (seed size : ℕ) → size ≤ max_items → IsInstance (made_knapsack seed size)
 knapsack_fits seed size few =
     let light = items_light (λ i. state_after seed (2 * i)) 0 size in
     let count : length (made_items seed size) ≡ size = length-map-range_with_len (λ i. item_from (state_after seed (2 * i))) 0 size in
@@ -93,7 +93,7 @@ rows_time_within : (f : ℕ → List Operation) (m : ℕ) → ((i : ℕ) → row
 rows_time_within f m each a zero = omega arith
 rows_time_within f m each a (suc n) = let here = each a in let rest = rows_time_within f m each (a + 1) n in omega (arith, here, rest, sym (times_next n m))
 
-pub shop_fits : (seed size : ℕ) → 1 ≤ size → size ≤ made_shop_limit → IsJobShop (made_shop seed size)
+pub shop_fits : (seed size : ℕ) → 1 ≤ size → size ≤ max_made_shop → IsJobShop (made_shop seed size)
 shop_fits seed size some few =
     let row = λ (j : ℕ). made_row seed size (j * (size + 1)) in
     let jobs : length (each_below size row) ≡ size = length-map-range_with_len row 0 size in
@@ -108,7 +108,7 @@ shop_fits seed size some few =
       jobs = omega (arith, jobs);
       some_machine = some;
       machines = omega arith;
-      size = subst (λ k. k * size ≤ operation_limit) (sym jobs) (omega (arith, square));
+      size = subst (λ k. k * size ≤ max_operations) (sym jobs) (omega (arith, square));
       steps = all_each (λ (r : List Operation). length r ≡ size) row (λ j. length-map-range_with_len (made_operation seed size (j * (size + 1))) 0 size) 0 size;
       named = all_each (λ (r : List Operation). AllByRecursion (λ (o : Operation). o.machine < size) r) row
           (λ j. all_each (λ (o : Operation). o.machine < size) (made_operation seed size (j * (size + 1))) (λ k. mod-lt (drawn (state_after seed (j * (size + 1))) size + k) some) 0 size) 0 size;
@@ -134,7 +134,7 @@ count_within f m each a (suc n) =
     let rest = count_within f m each (a + 1) n in
     omega (arith, here, rest, sum_by-cons length (f a) (map f (range_with_len (a + 1) n)), sym (times_next n m))
 
-pub script_fits : (seed lanes size : ℕ) → 1 ≤ lanes → lanes ≤ lane_limit → size ≤ made_lane_limit → IsScript (made_script seed lanes size)
+pub script_fits : (seed lanes size : ℕ) → 1 ≤ lanes → lanes ≤ max_lanes → size ≤ max_made_inserts → IsScript (made_script seed lanes size)
 script_fits seed lanes size some few short =
     let lane = λ (w : ℕ). made_lane seed size (w * size) in
     let count : length (each_below lanes lane) ≡ lanes = length-map-range_with_len lane 0 lanes in

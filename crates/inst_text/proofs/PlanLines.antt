@@ -10,7 +10,7 @@ use Rattle.pq_io.specs.Reading.{◌>>=◌, Read, Spells, number_at, number_of, a
 use Rattle.pq_io.proofs.Binds.{ok_is, bind_ok, guard_ok}
 use Rattle.pq_io.proofs.Plain.{number_spelled}
 use Rattle.pq_io.proofs.Taken.{number_of_is, number_taken, number_found, fixed_taken, fixed_found, line_ends, end_found}
-use Rattle.inst_text.specs.Limits.{total_limit, stated_limit}
+use Rattle.inst_text.specs.Limits.{max_total, max_stated}
 use Rattle.inst_text.specs.Several.{several, EachLine}
 use Rattle.inst_text.specs.Knapsack.{AreNumbers}
 use Rattle.inst_text.specs.Shop.{AreStarts}
@@ -24,26 +24,26 @@ Words = List (List ℕ)
 
 pub record StatedTaken (fixed : List ℕ) (words : Words) (n : ℕ) : Type 0 where
   pub spells : SpellsStated fixed words n
-  pub limit : n ≤ stated_limit
+  pub limit : n ≤ max_stated
 
 pub stated_taken : (fixed : List ℕ) (words : Words) (n : ℕ) → stated_of fixed words ≡ Ok n → StatedTaken fixed words n
 unfolding stated_of
 stated_taken fixed words n e =
-    let a = bind_ok (after_word fixed words) (λ rest. number_at 0 stated_limit rest >>= λ number. at_line_end number.rest >>= λ end. Ok number.value) n e in
-    let b = bind_ok (number_at 0 stated_limit a.0) (λ number. at_line_end number.rest >>= λ end. Ok number.value) n a.2 in
+    let a = bind_ok (after_word fixed words) (λ rest. number_at 0 max_stated rest >>= λ number. at_line_end number.rest >>= λ end. Ok number.value) n e in
+    let b = bind_ok (number_at 0 max_stated a.0) (λ number. at_line_end number.rest >>= λ end. Ok number.value) n a.2 in
     let z = bind_ok (at_line_end b.0.rest) (λ end. Ok b.0.value) n b.2 in
-    let v = number_taken 0 stated_limit a.0 b.0 b.1 in
+    let v = number_taken 0 max_stated a.0 b.0 b.1 in
     let last : b.0.rest ≡ [] = line_ends b.0.rest z.0 z.1 in
     let whole : fixed ∷ v.word ∷ [] ≡ words = sym (fixed_taken fixed words a.0 a.1 ∙ ap (λ (t : Words). fixed ∷ t) (v.first ∙ ap (λ (t : Words). v.word ∷ t) last)) in
     let here : SpellsStated fixed words b.0.value = subst (λ (t : Words). SpellsStated fixed t b.0.value) whole (refl, v.spells) in
     subst (λ k. StatedTaken fixed words k) (ok_is b.0.value n z.2) (record { spells = here; limit = v.below })
 
-pub stated_found : (fixed : List ℕ) (words : Words) (n : ℕ) → SpellsStated fixed words n → n ≤ stated_limit → stated_of fixed words ≡ Ok n
+pub stated_found : (fixed : List ℕ) (words : Words) (n : ℕ) → SpellsStated fixed words n → n ≤ max_stated → stated_of fixed words ≡ Ok n
 unfolding stated_of
 stated_found fixed [] n spells limit = absurd spells
 stated_found fixed (v ∷ []) n spells limit = absurd spells
 stated_found fixed (v ∷ w ∷ []) n spells limit =
-    rw (spells.0, fixed_found fixed (w ∷ []), number_found 0 stated_limit w [] n spells.1 (omega arith) limit, end_found) refl
+    rw (spells.0, fixed_found fixed (w ∷ []), number_found 0 max_stated w [] n spells.1 (omega arith) limit, end_found) refl
 stated_found fixed (v ∷ w ∷ x ∷ ws) n spells limit = absurd spells
 
 -- item numbers
@@ -106,7 +106,7 @@ choice_found n (w ∷ ws) ks spells are = rw (spells.0, fixed_found (codes "item
 -- start times
 
 abbrev pub AreInTime : List ℕ → Type 0
-AreInTime row = AllByRecursion (λ (t : ℕ). t ≤ total_limit) row
+AreInTime row = AllByRecursion (λ (t : ℕ). t ≤ max_total) row
 
 record StartsTaken (n : ℕ) (words : Words) (x : Read (List ℕ) Words) : Type 0 where
   prefix : Words
@@ -121,9 +121,9 @@ starts_taken zero words x e =
     subst (λ (y : Read (List ℕ) Words). StartsTaken 0 words y) (ok_is (record { value = []; rest = words }) x e)
     (record { prefix = []; first = refl; spell = tt; count = refl; limits = tt })
 starts_taken (suc n) words x e =
-    let p = bind_ok (number_at 0 total_limit words) (λ t. before t.value (starts_on n t.rest)) x e in
+    let p = bind_ok (number_at 0 max_total words) (λ t. before t.value (starts_on n t.rest)) x e in
     let q = bind_ok (starts_on n p.0.rest) (λ ts. Ok (record { value = p.0.value ∷ ts.value; rest = ts.rest })) x p.2 in
-    let v = number_taken 0 total_limit words p.0 p.1 in
+    let v = number_taken 0 max_total words p.0 p.1 in
     let vs = starts_taken n p.0.rest q.0 q.1 in
     let made : Read (List ℕ) Words = record { value = p.0.value ∷ q.0.value; rest = q.0.rest } in
     subst (λ (y : Read (List ℕ) Words). StartsTaken (suc n) words y) (ok_is made x q.2)
@@ -135,7 +135,7 @@ starts_found [] [] spell limits = refl
 starts_found [] (t ∷ ts) spell limits = absurd spell
 starts_found (w ∷ ws) [] spell limits = absurd spell
 starts_found (w ∷ ws) (t ∷ ts) spell limits =
-    rw (number_found 0 total_limit w ws t spell.0 (omega arith) limits.0, starts_found ws ts spell.1 limits.1) refl
+    rw (number_found 0 max_total w ws t spell.0 (omega arith) limits.0, starts_found ws ts spell.1 limits.1) refl
 
 record StartRowTaken (n : ℕ) (words : Words) (row : List ℕ) : Type 0 where
   spell : SpellNumbers words row

@@ -5,7 +5,7 @@ use Rattle.pq_io.specs.Lines.{Line, Text}
 use Rattle.pq_io.specs.Reading.{◌>>=◌, Read, line_at}
 use Rattle.pq_io.proofs.Binds.{ok_is, bind_ok}
 use Rattle.pq_io.proofs.Taken.{line_taken, line_found}
-use Rattle.inst_text.specs.Limits.{item_limit, stated_limit}
+use Rattle.inst_text.specs.Limits.{max_items, max_stated}
 use Rattle.inst_text.specs.declared.plan.Claimed.{Claimed}
 use Rattle.inst_text.specs.Several.{both}
 use Rattle.inst_text.specs.Knapsack.{Instance, AreNumbers, instance_at}
@@ -22,7 +22,7 @@ use Rattle.inst_text.proofs.PlanLines.{stated_taken, stated_found, choice_taken,
 -- lines that spell a choice of n items
 pub record MeansChoice (n : ℕ) (lines : List Line) (c : Claimed (List ℕ)) : Type 0 where
   pub spell : SpellChoice lines c
-  pub stated : c.stated ≤ stated_limit
+  pub stated : c.stated ≤ max_stated
   pub shape : AreNumbers 0 n c.plan
 
 choice_at_taken : (n : ℕ) (text : Text) (x : Read (Claimed (List ℕ)) Text) → choice_at n text ≡ Ok x → Prefix (MeansChoice n) text x
@@ -93,17 +93,17 @@ numbers_below : (low n m : ℕ) (ks : List ℕ) → n ≤ m → AreNumbers low n
 numbers_below low n m [] le are = tt
 numbers_below low n m (k ∷ ks) le are = (are.0, omega (arith, are.1), numbers_below (k + 1) n m ks le are.2)
 
-pub choice_fits : (n : ℕ) (text : Text) (x : Read (List ℕ) Text) → n ≤ item_limit → line_at (choice_of n) text ≡ Ok x → AreNumbers 0 item_limit x.value
+pub choice_fits : (n : ℕ) (text : Text) (x : Read (List ℕ) Text) → n ≤ max_items → line_at (choice_of n) text ≡ Ok x → AreNumbers 0 max_items x.value
 choice_fits n text x few e =
     let l = line_taken (choice_of n) text x e in
-    numbers_below 0 n item_limit x.value few (choice_taken n l.line.words x.value l.value).are
+    numbers_below 0 n max_items x.value few (choice_taken n l.line.words x.value l.value).are
 
 -- start times
 
 -- lines that spell start times of so many jobs, n of them each
 pub record MeansStarts (jobs n : ℕ) (lines : List Line) (c : Claimed (List (List ℕ))) : Type 0 where
   pub spell : SpellStarts lines c
-  pub stated : c.stated ≤ stated_limit
+  pub stated : c.stated ≤ max_stated
   pub jobs_are : length c.plan ≡ jobs
   pub steps : AllByRecursion (λ (row : List ℕ). length row ≡ n) c.plan
   pub limits : AreStarts c.plan

@@ -13,7 +13,7 @@ use Rattle.inst_text.specs.declared.script.lines.ScriptLine.TheVariants.{Command
 use Rattle.pq_words.specs.Limits.{key_limit}
 use Rattle.pq_model.specs.EntryWords.{entry_at}
 use Rattle.pq_model.proofs.EntryWords.{entry_taken, entry_found}
-use Rattle.inst_text.specs.Limits.{command_limit}
+use Rattle.inst_text.specs.Limits.{max_commands}
 use Rattle.inst_text.specs.Script.{Counted, IsCommand, SpellsCommand, room_for, insert_of, remove_of, remove_below_of, lane_of, script_line_of}
 use Rattle.inst_text.proofs.EveryLine.{on_line_ok}
 
@@ -27,20 +27,20 @@ Says words NextLane = words ≡ codes "lane" ∷ []
 
 -- what may follow so many commands and lanes
 abbrev pub Allows : ℕ → Counted → ScriptLine → Type 0
-Allows allowed c (Command act) = (c.commands < command_limit) × IsCommand act
+Allows allowed c (Command act) = (c.commands < max_commands) × IsCommand act
 Allows allowed c NextLane = c.lanes < allowed
 
 pub record LineTaken (allowed : ℕ) (c : Counted) (words : Words) (x : ScriptLine) : Type 0 where
   pub says : Says words x
   pub allows : Allows allowed c x
 
-room_taken : (n : ℕ) (u : Unit {0}) → room_for n ≡ Ok u → n < command_limit
+room_taken : (n : ℕ) (u : Unit {0}) → room_for n ≡ Ok u → n < max_commands
 unfolding room_for
-room_taken n u e = ltb-true n command_limit (guard_ok (ltb n command_limit) tt u Extra e).0
+room_taken n u e = ltb-true n max_commands (guard_ok (ltb n max_commands) tt u Extra e).0
 
-room_found : (n : ℕ) → n < command_limit → room_for n ≡ Ok tt
+room_found : (n : ℕ) → n < max_commands → room_for n ≡ Ok tt
 unfolding room_for
-room_found n lt = ap (λ b. cond b (Ok tt) (Err Extra)) (lt-ltb n command_limit lt)
+room_found n lt = ap (λ b. cond b (Ok tt) (Err Extra)) (lt-ltb n max_commands lt)
 
 -- behind each first word
 

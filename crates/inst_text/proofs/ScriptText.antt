@@ -9,7 +9,7 @@ use Rattle.pq_io.proofs.Binds.{ok_is, bind_ok, guard_ok}
 use Rattle.pq_model.specs.declared.marks.Act.{Act}
 use Rattle.inst_text.specs.declared.script.lines.ScriptLine.{ScriptLine}
 use Rattle.inst_text.specs.declared.script.lines.ScriptLine.TheVariants.{Command, NextLane}
-use Rattle.inst_text.specs.Limits.{lane_limit, command_limit}
+use Rattle.inst_text.specs.Limits.{max_lanes, max_commands}
 use Rattle.inst_text.specs.Several.{every_line}
 use Rattle.inst_text.specs.Script.{Counted, IsCommand, IsScriptOf, IsScript, IsScriptText, SpellsCommand, SpellLanes, command_count, counted_on, script_line_of, onto_first_lane, lanes_of, script_in, script_of}
 use Rattle.inst_text.proofs.OneByOne.{EachReads}
@@ -39,7 +39,7 @@ record Spelled (allowed : ℕ) (c : Counted) (ls : List Line) (lanes : Lanes) : 
   spell : SpellLanes ls lanes
   some : 1 ≤ length lanes
   few : length lanes + c.lanes ≤ allowed + 1
-  count : command_count lanes + c.commands ≤ command_limit
+  count : command_count lanes + c.commands ≤ max_commands
   commands : Commands lanes
 
 command_spelled : (allowed : ℕ) (c : Counted) (l : Line) (ls : List Line) (act : Act) (lanes : Lanes) → SpellsCommand l.words act → IsCommand act
@@ -60,7 +60,7 @@ lane_spelled allowed c l ls [] says s = let some = s.some in absurd (omega arith
 lane_spelled allowed c l ls (lane ∷ lanes) says s =
     record { spell = (says, s.spell); some = omega arith; few = omega (arith, s.few); count = omega (arith, s.count, count_lane [] (lane ∷ lanes)); commands = (tt, s.commands) }
 
-lines_spelled : (allowed : ℕ) (c : Counted) (ls : List Line) (xs : List ScriptLine) → c.lanes ≤ allowed → c.commands ≤ command_limit → Reads allowed c ls xs
+lines_spelled : (allowed : ℕ) (c : Counted) (ls : List Line) (xs : List ScriptLine) → c.lanes ≤ allowed → c.commands ≤ max_commands → Reads allowed c ls xs
     → Spelled allowed c ls (lanes_of xs)
 lines_spelled allowed c [] [] lanes commands reads = record { spell = tt; some = omega arith; few = omega arith; count = omega arith; commands = (tt, tt) }
 lines_spelled allowed c [] (x ∷ xs) lanes commands reads = absurd reads
@@ -81,7 +81,7 @@ record Found (allowed : ℕ) (c : Counted) (ls : List Line) (lanes : Lanes) : Ty
   are : lanes_of lines ≡ lanes
   reads : Reads allowed c ls lines
 
-lanes_found : (allowed : ℕ) (c : Counted) (ls : List Line) (lanes : Lanes) → SpellLanes ls lanes → length lanes + c.lanes ≤ allowed + 1 → command_count lanes + c.commands ≤ command_limit → Commands lanes
+lanes_found : (allowed : ℕ) (c : Counted) (ls : List Line) (lanes : Lanes) → SpellLanes ls lanes → length lanes + c.lanes ≤ allowed + 1 → command_count lanes + c.commands ≤ max_commands → Commands lanes
     → Found allowed c ls lanes
 lanes_found allowed c [] [] spell few count commands = absurd spell
 lanes_found allowed c [] ([] ∷ []) spell few count commands = record { lines = []; are = refl; reads = tt }
@@ -120,7 +120,7 @@ script_taken allowed ls lanes some e =
     (record { spell = s.spell; limits = record { some = s.some; few = omega (arith, s.few); count = omega (arith, s.count); commands = s.commands } })
 
 -- what a loop has read keeps the limits of every script
-pub script_fits : (allowed : ℕ) (ls : List Line) (lanes : Lanes) → 1 ≤ allowed → allowed ≤ lane_limit → script_in allowed ls ≡ Ok lanes → IsScript lanes
+pub script_fits : (allowed : ℕ) (ls : List Line) (lanes : Lanes) → 1 ≤ allowed → allowed ≤ max_lanes → script_in allowed ls ≡ Ok lanes → IsScript lanes
 script_fits allowed ls lanes some few e =
     let limits = (script_taken allowed ls lanes some e).limits in
     record { some = limits.some; few = omega (arith, limits.few); count = limits.count; commands = limits.commands }

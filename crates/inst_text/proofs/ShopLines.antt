@@ -8,7 +8,7 @@ use Rattle.pq_io.specs.Lines.{Line}
 use Rattle.pq_io.specs.Reading.{◌>>=◌, Read, Spells, number_at, at_line_end}
 use Rattle.pq_io.proofs.Binds.{ok_is, bind_ok, cond_ok}
 use Rattle.pq_io.proofs.Taken.{number_taken, number_found, line_ends, end_found}
-use Rattle.inst_text.specs.Limits.{job_limit, machine_limit, operation_limit}
+use Rattle.inst_text.specs.Limits.{max_jobs, max_machines, max_operations}
 use Rattle.inst_text.specs.declared.shop.Operation.{Operation}
 use Rattle.inst_text.specs.Several.{several, EachLine}
 use Rattle.inst_text.specs.Knapsack.{SpellsTwo}
@@ -24,20 +24,20 @@ Words = List (List ℕ)
 pub record ShopHeadTaken (words : Words) (head : ℕ × ℕ) : Type 0 where
   pub spells : SpellsTwo words head.0 head.1
   pub some_job : 1 ≤ head.0
-  pub jobs : head.0 ≤ job_limit
+  pub jobs : head.0 ≤ max_jobs
   pub some_machine : 1 ≤ head.1
-  pub machines : head.1 ≤ machine_limit
-  pub size : head.0 * head.1 ≤ operation_limit
+  pub machines : head.1 ≤ max_machines
+  pub size : head.0 * head.1 ≤ max_operations
 
 pub shop_head_taken : (words : Words) (head : ℕ × ℕ) → shop_head_of words ≡ Ok head → ShopHeadTaken words head
 unfolding shop_head_of
 shop_head_taken words head e =
-    let a = bind_ok (number_at 1 job_limit words) (λ jobs. number_at 1 machine_limit jobs.rest >>= λ machines. cond (leb (jobs.value * machines.value) operation_limit) (at_line_end machines.rest) (Err Range) >>= λ end. Ok (jobs.value, machines.value)) head e in
-    let b = bind_ok (number_at 1 machine_limit a.0.rest) (λ machines. cond (leb (a.0.value * machines.value) operation_limit) (at_line_end machines.rest) (Err Range) >>= λ end. Ok (a.0.value, machines.value)) head a.2 in
-    let z = bind_ok (cond (leb (a.0.value * b.0.value) operation_limit) (at_line_end b.0.rest) (Err Range)) (λ end. Ok (a.0.value, b.0.value)) head b.2 in
-    let g = cond_ok (leb (a.0.value * b.0.value) operation_limit) (at_line_end b.0.rest) z.0 Range z.1 in
-    let v = number_taken 1 job_limit words a.0 a.1 in
-    let w = number_taken 1 machine_limit a.0.rest b.0 b.1 in
+    let a = bind_ok (number_at 1 max_jobs words) (λ jobs. number_at 1 max_machines jobs.rest >>= λ machines. cond (leb (jobs.value * machines.value) max_operations) (at_line_end machines.rest) (Err Range) >>= λ end. Ok (jobs.value, machines.value)) head e in
+    let b = bind_ok (number_at 1 max_machines a.0.rest) (λ machines. cond (leb (a.0.value * machines.value) max_operations) (at_line_end machines.rest) (Err Range) >>= λ end. Ok (a.0.value, machines.value)) head a.2 in
+    let z = bind_ok (cond (leb (a.0.value * b.0.value) max_operations) (at_line_end b.0.rest) (Err Range)) (λ end. Ok (a.0.value, b.0.value)) head b.2 in
+    let g = cond_ok (leb (a.0.value * b.0.value) max_operations) (at_line_end b.0.rest) z.0 Range z.1 in
+    let v = number_taken 1 max_jobs words a.0 a.1 in
+    let w = number_taken 1 max_machines a.0.rest b.0 b.1 in
     subst (λ (h : ℕ × ℕ). ShopHeadTaken words h) (ok_is (a.0.value, b.0.value) head z.2)
     (record {
       spells = spells_two words a.0.value b.0.value v.word w.word a.0.rest b.0.rest v.first w.first (line_ends b.0.rest z.0 g.1) v.spells w.spells;
@@ -45,15 +45,15 @@ shop_head_taken words head e =
       jobs = v.below;
       some_machine = w.above;
       machines = w.below;
-      size = leb-true (a.0.value * b.0.value) operation_limit g.0;
+      size = leb-true (a.0.value * b.0.value) max_operations g.0;
     })
 
-pub shop_head_found : (words : Words) (a b : ℕ) → SpellsTwo words a b → 1 ≤ a → a ≤ job_limit → 1 ≤ b → b ≤ machine_limit → a * b ≤ operation_limit → shop_head_of words ≡ Ok (a, b)
+pub shop_head_found : (words : Words) (a b : ℕ) → SpellsTwo words a b → 1 ≤ a → a ≤ max_jobs → 1 ≤ b → b ≤ max_machines → a * b ≤ max_operations → shop_head_of words ≡ Ok (a, b)
 unfolding shop_head_of
 shop_head_found [] a b spells some_a few_a some_b few_b size = absurd spells
 shop_head_found (v ∷ []) a b spells some_a few_a some_b few_b size = absurd spells
 shop_head_found (v ∷ w ∷ []) a b spells some_a few_a some_b few_b size =
-    rw (number_found 1 job_limit v (w ∷ []) a spells.0 some_a few_a, number_found 1 machine_limit w [] b spells.1 some_b few_b, le-leb (a * b) operation_limit size, end_found) refl
+    rw (number_found 1 max_jobs v (w ∷ []) a spells.0 some_a few_a, number_found 1 max_machines w [] b spells.1 some_b few_b, le-leb (a * b) max_operations size, end_found) refl
 shop_head_found (v ∷ w ∷ x ∷ ws) a b spells some_a few_a some_b few_b size = absurd spells
 
 -- an operation

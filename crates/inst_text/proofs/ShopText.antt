@@ -4,7 +4,7 @@ use Rattle.pq_io.specs.Lines.{Line, Text}
 use Rattle.pq_io.specs.Reading.{◌>>=◌, Read, line_at}
 use Rattle.pq_io.proofs.Binds.{ok_is, bind_ok}
 use Rattle.pq_io.proofs.Taken.{line_taken, line_found}
-use Rattle.inst_text.specs.Limits.{operation_limit, total_limit}
+use Rattle.inst_text.specs.Limits.{max_operations, max_total}
 use Rattle.inst_text.specs.declared.shop.Operation.{Operation}
 use Rattle.inst_text.specs.Knapsack.{SpellsTwo}
 use Rattle.inst_text.specs.Shop.{JobShop, IsJobShop, IsMachineCount, SpellShop, IsShopText, shop_head_of, row_of, rows_at, shop_at, shop_of}
@@ -25,19 +25,19 @@ machines_few text head e =
     (h.some_machine, h.machines)
 
 -- a head and rows make a shop
-pub shop_fits : (text : Text) (head : Read (ℕ × ℕ) Text) (rows : Read (List (List Operation)) Text) → line_at shop_head_of text ≡ Ok head → rows_at head.value.0 head.value.1 total_limit head.rest ≡ Ok rows
+pub shop_fits : (text : Text) (head : Read (ℕ × ℕ) Text) (rows : Read (List (List Operation)) Text) → line_at shop_head_of text ≡ Ok head → rows_at head.value.0 head.value.1 max_total head.rest ≡ Ok rows
     → IsJobShop (record { machines = head.value.1; rows = rows.value })
 shop_fits text head rows e f =
     let l = line_taken shop_head_of text head e in
     let h = shop_head_taken l.line.words head.value l.value in
-    let ts = lines_taken (row_of head.value.1) less_row head.value.0 total_limit head.rest rows f in
-    let rs = rows_are head.value.1 total_limit ts.lines rows.value h.some_machine ts.each in
+    let ts = lines_taken (row_of head.value.1) less_row head.value.0 max_total head.rest rows f in
+    let rs = rows_are head.value.1 max_total ts.lines rows.value h.some_machine ts.each in
     record {
       some_job = omega (arith, h.some_job, ts.count);
       jobs = omega (arith, h.jobs, ts.count);
       some_machine = h.some_machine;
       machines = h.machines;
-      size = subst (λ k. k * head.value.1 ≤ operation_limit) (sym ts.count) h.size;
+      size = subst (λ k. k * head.value.1 ≤ max_operations) (sym ts.count) h.size;
       steps = rs.steps;
       named = rs.named;
       times = rs.times;
@@ -46,12 +46,12 @@ shop_fits text head rows e f =
 shop_taken : (text : Text) (x : Read JobShop Text) → shop_at text ≡ Ok x → Prefix MeansShop text x
 unfolding shop_at
 shop_taken text x e =
-    let p = bind_ok (line_at shop_head_of text) (λ head. rows_at head.value.0 head.value.1 total_limit head.rest >>= λ rows. Ok (record { value = record { machines = head.value.1; rows = rows.value }; rest = rows.rest })) x e in
-    let q = bind_ok (rows_at p.0.value.0 p.0.value.1 total_limit p.0.rest) (λ rows. Ok (record { value = record { machines = p.0.value.1; rows = rows.value }; rest = rows.rest })) x p.2 in
+    let p = bind_ok (line_at shop_head_of text) (λ head. rows_at head.value.0 head.value.1 max_total head.rest >>= λ rows. Ok (record { value = record { machines = head.value.1; rows = rows.value }; rest = rows.rest })) x e in
+    let q = bind_ok (rows_at p.0.value.0 p.0.value.1 max_total p.0.rest) (λ rows. Ok (record { value = record { machines = p.0.value.1; rows = rows.value }; rest = rows.rest })) x p.2 in
     let l = line_taken shop_head_of text p.0 p.1 in
     let h = shop_head_taken l.line.words p.0.value l.value in
-    let ts = lines_taken (row_of p.0.value.1) less_row p.0.value.0 total_limit p.0.rest q.0 q.1 in
-    let rs = rows_are p.0.value.1 total_limit ts.lines q.0.value h.some_machine ts.each in
+    let ts = lines_taken (row_of p.0.value.1) less_row p.0.value.0 max_total p.0.rest q.0 q.1 in
+    let rs = rows_are p.0.value.1 max_total ts.lines q.0.value h.some_machine ts.each in
     let made : Read JobShop Text = record { value = record { machines = p.0.value.1; rows = q.0.value }; rest = q.0.rest } in
     subst (λ (y : Read JobShop Text). Prefix MeansShop text y) (ok_is made x q.2)
     (record {
@@ -68,8 +68,8 @@ shop_found (l ∷ ls) rest end s m =
     rw (
       line_found shop_head_of l (ls ++ rest) end (length s.rows, s.machines)
           (shop_head_found l.words (length s.rows) s.machines m.spell.0 limits.some_job limits.jobs limits.some_machine limits.machines limits.size),
-      lines_found (row_of s.machines) less_row total_limit ls s.rows rest end
-          (rows_read s.machines total_limit ls s.rows (record { spell = m.spell.1; steps = limits.steps; named = limits.named; times = limits.times })),
+      lines_found (row_of s.machines) less_row max_total ls s.rows rest end
+          (rows_read s.machines max_total ls s.rows (record { spell = m.spell.1; steps = limits.steps; named = limits.named; times = limits.times })),
     ) refl
 
 pub shop_read : IsReader shop_at MeansShop

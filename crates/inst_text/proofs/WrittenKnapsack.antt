@@ -4,7 +4,7 @@ use Rattle.std.specs.List.{AllByRecursion}
 use Rattle.pq_io.specs.Writing.{words_text, IsPlainLine}
 use Rattle.pq_io.proofs.Plain.{decimal_plain, decimal_digits}
 use Rattle.pq_io.specs.Inputs.{longest_input}
-use Rattle.inst_text.specs.Limits.{weight_limit, total_limit}
+use Rattle.inst_text.specs.Limits.{max_weight, max_total}
 use Rattle.inst_text.specs.declared.knapsack.Item.{Item}
 use Rattle.inst_text.specs.Knapsack.{Instance, IsInstance, total_value, SpellsTwo, SpellKnapsack, two_words, knapsack_lines, knapsack_text, knapsack_of}
 use Rattle.inst_text.proofs.Written.{digits_at_most, word_length, line_length, Writes, WritesEach, each_plain, each_means, each_short, one_text}
@@ -27,10 +27,10 @@ abbrev item_words : Item → List (List ℕ)
 item_words j = two_words j.weight j.value
 
 record ItemWithin (j : Item) : Type 0 where
-  weight : j.weight ≤ weight_limit
-  value : j.value ≤ total_limit
+  weight : j.weight ≤ max_weight
+  value : j.value ≤ max_total
 
-items_within : (is : List Item) → AllByRecursion (λ (j : Item). j.weight ≤ weight_limit) is → total_value is ≤ total_limit → AllByRecursion ItemWithin is
+items_within : (is : List Item) → AllByRecursion (λ (j : Item). j.weight ≤ max_weight) is → total_value is ≤ max_total → AllByRecursion ItemWithin is
 items_within [] weights values = tt
 items_within (i ∷ is) weights values = (record { weight = weights.0; value = omega arith }, items_within is weights.1 (omega arith))
 

@@ -4,7 +4,7 @@ use Rattle.std.specs.List.{AllByRecursion}
 use Rattle.pq_io.specs.Writing.{words_text, IsPlainWord, IsPlainLine}
 use Rattle.pq_io.proofs.Plain.{decimal_plain, decimal_digits}
 use Rattle.pq_io.specs.Inputs.{longest_input}
-use Rattle.inst_text.specs.Limits.{item_limit, machine_limit, total_limit, stated_limit}
+use Rattle.inst_text.specs.Limits.{max_items, max_machines, max_total, max_stated}
 use Rattle.inst_text.specs.declared.plan.Claimed.{Claimed}
 use Rattle.inst_text.specs.Knapsack.{Instance, IsInstance, AreNumbers, SpellKnapsack, IsKnapsackText, knapsack_lines, knapsack_text, choice_lines, choice_text}
 use Rattle.inst_text.specs.Shop.{JobShop, IsJobShop, AreStarts, SpellShop, IsShopText, shop_lines, shop_text, starts_lines, starts_text}
@@ -29,27 +29,27 @@ makespan_plain = (refl, (refl, (refl, (refl, (refl, (refl, (refl, (refl, tt)))))
 
 -- numbers in decimal
 
-numbers_plain : (ks : List ℕ) → AllByRecursion (λ k. k ≤ total_limit) ks → AllByRecursion IsPlainWord (map decimal ks)
+numbers_plain : (ks : List ℕ) → AllByRecursion (λ k. k ≤ max_total) ks → AllByRecursion IsPlainWord (map decimal ks)
 numbers_plain [] within = tt
 numbers_plain (k ∷ ks) within = let w = within.0 in ((decimal_plain k (omega arith)).0, numbers_plain ks within.1)
 
-numbers_spelled : (ks : List ℕ) → AllByRecursion (λ k. k ≤ total_limit) ks → SpellNumbers (map decimal ks) ks
+numbers_spelled : (ks : List ℕ) → AllByRecursion (λ k. k ≤ max_total) ks → SpellNumbers (map decimal ks) ks
 numbers_spelled [] within = tt
 numbers_spelled (k ∷ ks) within = let w = within.0 in (decimal_digits k (omega arith), numbers_spelled ks within.1)
 
-numbers_length : (ks : List ℕ) → AllByRecursion (λ k. k ≤ total_limit) ks → length (words_text (map decimal ks)) ≤ 9 * length ks
+numbers_length : (ks : List ℕ) → AllByRecursion (λ k. k ≤ max_total) ks → length (words_text (map decimal ks)) ≤ 9 * length ks
 numbers_length [] within = omega arith
 numbers_length (k ∷ ks) within =
     let w = within.0 in
     let a : length (decimal k) ≤ 8 = digits_at_most 8 k (omega arith) (omega arith) (omega arith) in
     omega (arith, word_length (decimal k) (map decimal ks), numbers_length ks within.1)
 
-stated_length : (n : ℕ) → n ≤ stated_limit → length (decimal n) ≤ 10
+stated_length : (n : ℕ) → n ≤ max_stated → length (decimal n) ≤ 10
 stated_length n le = digits_at_most 10 n (omega arith) (omega arith) (omega arith)
 
 -- a choice
 
-numbers_within : (low n : ℕ) (ks : List ℕ) → n ≤ item_limit → AreNumbers low n ks → AllByRecursion (λ k. k ≤ total_limit) ks
+numbers_within : (low n : ℕ) (ks : List ℕ) → n ≤ max_items → AreNumbers low n ks → AllByRecursion (λ k. k ≤ max_total) ks
 numbers_within low n [] few are = tt
 numbers_within low n (k ∷ ks) few are = (omega (arith, are.1), numbers_within (k + 1) n ks few are.2)
 
@@ -58,7 +58,7 @@ numbers_count : (low n : ℕ) (ks : List ℕ) → low ≤ n → AreNumbers low n
 numbers_count low n [] le are = omega arith
 numbers_count low n (k ∷ ks) le are = let below = are.1 in omega (arith, are.0, numbers_count (k + 1) n ks (omega arith) are.2)
 
-pub choice_written : (n : ℕ) (c : Claimed (List ℕ)) → n ≤ item_limit → c.stated ≤ stated_limit → AreNumbers 0 n c.plan → Writes SpellChoice (choice_lines c.stated c.plan) c 10000
+pub choice_written : (n : ℕ) (c : Claimed (List ℕ)) → n ≤ max_items → c.stated ≤ max_stated → AreNumbers 0 n c.plan → Writes SpellChoice (choice_lines c.stated c.plan) c 10000
 choice_written n c few limit are =
     let within = numbers_within 0 n c.plan few are in
     let stated = decimal_plain c.stated (omega arith) in
@@ -78,7 +78,7 @@ choice_written n c few limit are =
           );
     }
 
-pub choice_text_is_read : (i : Instance) (c : Claimed (List ℕ)) → IsInstance i → c.stated ≤ stated_limit → AreNumbers 0 (length i.items) c.plan → knapsack_plan_of (knapsack_text i ++ choice_text c.stated c.plan) ≡ Ok (i, c)
+pub choice_text_is_read : (i : Instance) (c : Claimed (List ℕ)) → IsInstance i → c.stated ≤ max_stated → AreNumbers 0 (length i.items) c.plan → knapsack_plan_of (knapsack_text i ++ choice_text c.stated c.plan) ≡ Ok (i, c)
 choice_text_is_read i c limits stated are =
     let v = instance_written i limits in
     let w = choice_written (length i.items) c limits.count stated are in
@@ -92,7 +92,7 @@ choice_text_is_read i c limits stated are =
     })
 
 -- behind any text of the instance
-pub choice_behind_is_read : (bytes : List ℕ) (i : Instance) (c : Claimed (List ℕ)) → IsKnapsackText (bytes ++ 10 ∷ []) i → c.stated ≤ stated_limit → AreNumbers 0 (length i.items) c.plan
+pub choice_behind_is_read : (bytes : List ℕ) (i : Instance) (c : Claimed (List ℕ)) → IsKnapsackText (bytes ++ 10 ∷ []) i → c.stated ≤ max_stated → AreNumbers 0 (length i.items) c.plan
     → length (bytes ++ 10 ∷ choice_text c.stated c.plan) ≤ longest_input → knapsack_plan_of (bytes ++ 10 ∷ choice_text c.stated c.plan) ≡ Ok (i, c)
 choice_behind_is_read bytes i c text stated are size =
     let limits = text.limits in
@@ -110,10 +110,10 @@ choice_behind_is_read bytes i c text stated are size =
 
 record StartRowWithin (row : List ℕ) : Type 0 where
   some : 1 ≤ length row
-  few : length row ≤ machine_limit
+  few : length row ≤ max_machines
   each : AreInTime row
 
-start_rows_within : (n : ℕ) (rows : List (List ℕ)) → 1 ≤ n → n ≤ machine_limit → AllByRecursion (λ (row : List ℕ). length row ≡ n) rows → AreStarts rows → AllByRecursion StartRowWithin rows
+start_rows_within : (n : ℕ) (rows : List (List ℕ)) → 1 ≤ n → n ≤ max_machines → AllByRecursion (λ (row : List ℕ). length row ≡ n) rows → AreStarts rows → AllByRecursion StartRowWithin rows
 start_rows_within n [] some few steps limits = tt
 start_rows_within n (r ∷ rs) some few steps limits =
     let count = steps.0 in (record { some = omega arith; few = omega arith; each = limits.0 }, start_rows_within n rs some few steps.1 limits.1)
@@ -135,7 +135,7 @@ start_rows_written = record {
   short = λ row within. omega (arith, numbers_length row within.each, within.few);
 }
 
-starts_written : (s : JobShop) (c : Claimed (List (List ℕ))) → IsJobShop s → c.stated ≤ stated_limit → AreStartsOf s c.plan → Writes SpellStarts (starts_lines c.stated c.plan) c 90200
+starts_written : (s : JobShop) (c : Claimed (List (List ℕ))) → IsJobShop s → c.stated ≤ max_stated → AreStartsOf s c.plan → Writes SpellStarts (starts_lines c.stated c.plan) c 90200
 starts_written s c limits limit are =
     let within = start_rows_within s.machines c.plan limits.some_machine limits.machines are.steps are.limits in
     let stated = decimal_plain c.stated (omega arith) in
@@ -154,7 +154,7 @@ starts_written s c limits limit are =
           );
     }
 
-pub starts_text_is_read : (s : JobShop) (c : Claimed (List (List ℕ))) → IsJobShop s → c.stated ≤ stated_limit → AreStartsOf s c.plan → shop_plan_of (shop_text s ++ starts_text c.stated c.plan) ≡ Ok (s, c)
+pub starts_text_is_read : (s : JobShop) (c : Claimed (List (List ℕ))) → IsJobShop s → c.stated ≤ max_stated → AreStartsOf s c.plan → shop_plan_of (shop_text s ++ starts_text c.stated c.plan) ≡ Ok (s, c)
 starts_text_is_read s c limits stated are =
     let v = shop_written s limits in
     let w = starts_written s c limits stated are in
@@ -168,7 +168,7 @@ starts_text_is_read s c limits stated are =
     })
 
 -- behind any text of the shop
-pub starts_behind_are_read : (bytes : List ℕ) (s : JobShop) (c : Claimed (List (List ℕ))) → IsShopText (bytes ++ 10 ∷ []) s → c.stated ≤ stated_limit → AreStartsOf s c.plan
+pub starts_behind_are_read : (bytes : List ℕ) (s : JobShop) (c : Claimed (List (List ℕ))) → IsShopText (bytes ++ 10 ∷ []) s → c.stated ≤ max_stated → AreStartsOf s c.plan
     → length (bytes ++ 10 ∷ starts_text c.stated c.plan) ≤ longest_input → shop_plan_of (bytes ++ 10 ∷ starts_text c.stated c.plan) ≡ Ok (s, c)
 starts_behind_are_read bytes s c text stated are size =
     let w = starts_written s c text.limits stated are in

@@ -4,7 +4,7 @@ use Rattle.std.specs.List.{AllByRecursion}
 use Rattle.pq_io.specs.Writing.{words_text, IsPlainWord, IsPlainLine}
 use Rattle.pq_io.proofs.Plain.{decimal_plain, decimal_digits}
 use Rattle.pq_io.specs.Inputs.{longest_input}
-use Rattle.inst_text.specs.Limits.{machine_limit, total_limit}
+use Rattle.inst_text.specs.Limits.{max_machines, max_total}
 use Rattle.inst_text.specs.declared.shop.Operation.{Operation}
 use Rattle.inst_text.specs.Knapsack.{two_words}
 use Rattle.inst_text.specs.Shop.{JobShop, IsJobShop, row_time, rows_time, SpellRow, SpellShop, row_words, shop_lines, shop_text, shop_of}
@@ -14,25 +14,25 @@ use Rattle.inst_text.proofs.ShopLines.{AreNamed}
 use Rattle.inst_text.proofs.ShopText.{shop_is_read}
 
 record OperationWithin (o : Operation) : Type 0 where
-  machine : o.machine < machine_limit
-  time : o.time ≤ total_limit
+  machine : o.machine < max_machines
+  time : o.time ≤ max_total
 
 abbrev AreWithin : List Operation → Type 0
 AreWithin row = AllByRecursion OperationWithin row
 
 record RowWithin (row : List Operation) : Type 0 where
   some : 1 ≤ length row
-  few : length row ≤ machine_limit
+  few : length row ≤ max_machines
   each : AreWithin row
 
-operations_within : (machines : ℕ) (row : List Operation) → machines ≤ machine_limit → AreNamed machines row → row_time row ≤ total_limit → AreWithin row
+operations_within : (machines : ℕ) (row : List Operation) → machines ≤ max_machines → AreNamed machines row → row_time row ≤ max_total → AreWithin row
 operations_within machines [] few named times = tt
 operations_within machines (o ∷ os) few named times =
     let n = named.0 in
     (record { machine = omega arith; time = omega arith }, operations_within machines os few named.1 (omega arith))
 
-rows_within : (machines : ℕ) (rows : List (List Operation)) → 1 ≤ machines → machines ≤ machine_limit → AllByRecursion (λ (row : List Operation). length row ≡ machines) rows → AllByRecursion (λ (row : List Operation). AreNamed machines row) rows
-    → rows_time rows ≤ total_limit → AllByRecursion RowWithin rows
+rows_within : (machines : ℕ) (rows : List (List Operation)) → 1 ≤ machines → machines ≤ max_machines → AllByRecursion (λ (row : List Operation). length row ≡ machines) rows → AllByRecursion (λ (row : List Operation). AreNamed machines row) rows
+    → rows_time rows ≤ max_total → AllByRecursion RowWithin rows
 rows_within machines [] some few steps named times = tt
 rows_within machines (r ∷ rs) some few steps named times =
     let count = steps.0 in

@@ -9,7 +9,7 @@ use Rattle.pq_io.specs.Lines.{Line, Text, text_of}
 use Rattle.pq_io.specs.Reading.{◌>>=◌, Read, Spells, number_at, at_line_end, line_at}
 use Rattle.pq_io.specs.Writing.{lines_text}
 use Rattle.inst_text.specs.declared.knapsack.Item.{Item}
-use Rattle.inst_text.specs.Limits.{item_limit, weight_limit, capacity_limit, total_limit}
+use Rattle.inst_text.specs.Limits.{max_items, max_weight, max_knapsack_capacity, max_total}
 use Rattle.inst_text.specs.Several.{several, EachLine, whole}
 
 -- an instance without where it lies in memory
@@ -23,10 +23,10 @@ total_value (i ∷ is) = i.value + total_value is
 
 -- the limits of every instance
 pub record IsInstance (i : Instance) : Type 0 where
-  pub count : length i.items ≤ item_limit
-  pub capacity : i.capacity ≤ capacity_limit
-  pub weights : AllByRecursion (λ (j : Item). j.weight ≤ weight_limit) i.items
-  pub values : total_value i.items ≤ total_limit
+  pub count : length i.items ≤ max_items
+  pub capacity : i.capacity ≤ max_knapsack_capacity
+  pub weights : AllByRecursion (λ (j : Item). j.weight ≤ max_weight) i.items
+  pub values : total_value i.items ≤ max_total
 
 -- rising item numbers, none below low, each below n
 abbrev pub AreNumbers : ℕ → ℕ → List ℕ → Type 0
@@ -36,15 +36,15 @@ AreNumbers low n (k ∷ ks) = (low ≤ k) × (k < n) × AreNumbers (k + 1) n ks
 -- The first line of a knapsack: how many items, and the capacity.
 unfoldable pub head_of : List (List ℕ) → Result (ℕ × ℕ) Cause
 head_of words = do
-  count ← number_at 0 item_limit words
-  capacity ← number_at 0 capacity_limit count.rest
+  count ← number_at 0 max_items words
+  capacity ← number_at 0 max_knapsack_capacity count.rest
   end ← at_line_end capacity.rest
   Ok (count.value, capacity.value)
 
 -- The line of an item, whose value may be at most room.
 unfoldable pub item_of : ℕ → List (List ℕ) → Result Item Cause
 item_of room words = do
-  weight ← number_at 0 weight_limit words
+  weight ← number_at 0 max_weight words
   value ← number_at 0 room weight.rest
   end ← at_line_end value.rest
   Ok (record { weight = weight.value; value = value.value })
@@ -57,7 +57,7 @@ items_at n room text = several (λ r. line_at (item_of r)) (λ r item. r - item.
 unfoldable pub instance_at : Text → Result (Read Instance Text) BadInput
 instance_at text = do
   head ← line_at head_of text
-  items ← items_at head.value.0 total_limit head.rest
+  items ← items_at head.value.0 max_total head.rest
   Ok (record { value = record { capacity = head.value.1; items = items.value }; rest = items.rest })
 
 -- the instance that these bytes read as, or their first fault

@@ -8,7 +8,7 @@ use Rattle.pq_io.specs.Inputs.{longest_input}
 use Rattle.pq_io.specs.Lines.{Line, Text, text_of}
 use Rattle.pq_io.specs.Reading.{◌>>=◌, Read, Spells, number_at, number_of, word_at, after_word, at_line_end, line_at}
 use Rattle.inst_text.specs.declared.plan.Claimed.{Claimed}
-use Rattle.inst_text.specs.Limits.{stated_limit, total_limit}
+use Rattle.inst_text.specs.Limits.{max_stated, max_total}
 use Rattle.inst_text.specs.Several.{several, with_line, EachLine, both, Follow, whole}
 use Rattle.inst_text.specs.Knapsack.{Instance, IsInstance, AreNumbers, SpellKnapsack, instance_at}
 use Rattle.inst_text.specs.Shop.{JobShop, IsJobShop, AreStarts, SpellShop, shop_at}
@@ -17,7 +17,7 @@ use Rattle.inst_text.specs.Shop.{JobShop, IsJobShop, AreStarts, SpellShop, shop_
 unfoldable pub stated_of : List ℕ → List (List ℕ) → Result ℕ Cause
 stated_of word words = do
   rest ← after_word word words
-  number ← number_at 0 stated_limit rest
+  number ← number_at 0 max_stated rest
   end ← at_line_end number.rest
   Ok number.value
 
@@ -57,12 +57,12 @@ choice_at n text = do
 
 -- Some start times.
 abbrev pub starts_on : ℕ → List (List ℕ) → Result (Read (List ℕ) (List (List ℕ))) Cause
-starts_on n words = several (λ (s : Unit {0}). number_at 0 total_limit) (λ s start. s) n tt words
+starts_on n words = several (λ (s : Unit {0}). number_at 0 max_total) (λ s start. s) n tt words
 
 -- the same, with faults on this line
 abbrev pub line_starts_on : ℕ → ℕ → List (List ℕ) → Result (Read (List ℕ) (List (List ℕ))) BadInput
 line_starts_on line n words =
-    several (with_line line (λ (s : Unit {0}). number_at 0 total_limit)) (λ s start. s) n tt words
+    several (with_line line (λ (s : Unit {0}). number_at 0 max_total)) (λ s start. s) n tt words
 
 -- The line of a job's start times, n of them.
 unfoldable pub start_row_of : ℕ → List (List ℕ) → Result (List ℕ) Cause
@@ -127,7 +127,7 @@ pub record IsKnapsackPlanText (bytes : List ℕ) (i : Instance) (c : Claimed (Li
   pub size : length bytes ≤ longest_input
   pub lines : Follow SpellKnapsack SpellChoice (text_of bytes).lines i c
   pub limits : IsInstance i
-  pub stated : c.stated ≤ stated_limit
+  pub stated : c.stated ≤ max_stated
   pub shape : AreNumbers 0 (length i.items) c.plan
 
 -- A text of this shop with this plan behind it, start times of its operations.
@@ -135,5 +135,5 @@ pub record IsShopPlanText (bytes : List ℕ) (s : JobShop) (c : Claimed (List (L
   pub size : length bytes ≤ longest_input
   pub lines : Follow SpellShop SpellStarts (text_of bytes).lines s c
   pub limits : IsJobShop s
-  pub stated : c.stated ≤ stated_limit
+  pub stated : c.stated ≤ max_stated
   pub shape : AreStartsOf s c.plan

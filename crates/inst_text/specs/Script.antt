@@ -15,7 +15,7 @@ use Rattle.pq_model.specs.declared.marks.Act.{Act}
 use Rattle.pq_model.specs.declared.marks.Act.TheVariants.{Insert, Remove, RemoveBelow}
 use Rattle.inst_text.specs.declared.script.lines.ScriptLine.{ScriptLine}
 use Rattle.inst_text.specs.declared.script.lines.ScriptLine.TheVariants.{Command, NextLane}
-use Rattle.inst_text.specs.Limits.{lane_limit, command_limit}
+use Rattle.inst_text.specs.Limits.{max_lanes, max_commands}
 use Rattle.inst_text.specs.Several.{every_line}
 
 -- the limit below which a key is asked for is at most the one that every key is below
@@ -32,12 +32,12 @@ command_count lanes = sum_by length lanes
 pub record IsScriptOf (allowed : ℕ) (lanes : List (List Act)) : Type 0 where
   pub some : 1 ≤ length lanes
   pub few : length lanes ≤ allowed
-  pub count : command_count lanes ≤ command_limit
+  pub count : command_count lanes ≤ max_commands
   pub commands : AllByRecursion (λ (lane : List Act). AllByRecursion IsCommand lane) lanes
 
 -- the limits of every script
 abbrev pub IsScript : List (List Act) → Type 0
-IsScript lanes = IsScriptOf lane_limit lanes
+IsScript lanes = IsScriptOf max_lanes lanes
 
 -- how many commands and how many lanes there are so far
 pub record Counted : Type 0 where
@@ -51,7 +51,7 @@ counted_on c NextLane = record { commands = c.commands; lanes = c.lanes + 1 }
 
 -- Whether one more command may follow.
 unfoldable pub room_for : ℕ → Result (Unit {0}) Cause
-room_for commands = if nat_lt commands command_limit then Ok tt else Err Extra
+room_for commands = if nat_lt commands max_commands then Ok tt else Err Extra
 
 -- Behind `+`: the key and the id to add.
 unfoldable pub insert_of : ℕ → List (List ℕ) → Result ScriptLine Cause

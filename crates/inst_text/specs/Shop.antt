@@ -11,7 +11,7 @@ use Rattle.pq_io.specs.Lines.{Line, Text, text_of}
 use Rattle.pq_io.specs.Reading.{◌>>=◌, Read, Spells, number_at, at_line_end, line_at}
 use Rattle.pq_io.specs.Writing.{lines_text}
 use Rattle.inst_text.specs.declared.shop.Operation.{Operation}
-use Rattle.inst_text.specs.Limits.{job_limit, machine_limit, operation_limit, total_limit}
+use Rattle.inst_text.specs.Limits.{max_jobs, max_machines, max_operations, max_total}
 use Rattle.inst_text.specs.Several.{several, with_line, EachLine, whole}
 use Rattle.inst_text.specs.Knapsack.{SpellsTwo, two_words}
 
@@ -37,30 +37,30 @@ operations s = length s.rows * s.machines
 -- the limits of every job shop
 pub record IsJobShop (s : JobShop) : Type 0 where
   pub some_job : 1 ≤ length s.rows
-  pub jobs : length s.rows ≤ job_limit
+  pub jobs : length s.rows ≤ max_jobs
   pub some_machine : 1 ≤ s.machines
-  pub machines : s.machines ≤ machine_limit
-  pub size : operations s ≤ operation_limit
+  pub machines : s.machines ≤ max_machines
+  pub size : operations s ≤ max_operations
   pub steps : AllByRecursion (λ (row : List Operation). length row ≡ s.machines) s.rows
   pub named : AllByRecursion (λ (row : List Operation).
       AllByRecursion (λ (o : Operation). o.machine < s.machines) row) s.rows
-  pub times : rows_time s.rows ≤ total_limit
+  pub times : rows_time s.rows ≤ max_total
 
 -- rows of start times, each within its limit
 abbrev pub AreStarts : List (List ℕ) → Type 0
-AreStarts rows = AllByRecursion (λ (row : List ℕ). AllByRecursion (λ (t : ℕ). t ≤ total_limit) row) rows
+AreStarts rows = AllByRecursion (λ (row : List ℕ). AllByRecursion (λ (t : ℕ). t ≤ max_total) row) rows
 
 -- The first line of a shop: how many jobs, and how many machines.
 unfoldable pub shop_head_of : List (List ℕ) → Result (ℕ × ℕ) Cause
 shop_head_of words = do
-  jobs ← number_at 1 job_limit words
-  machines ← number_at 1 machine_limit jobs.rest
-  end ← if nat_le (jobs.value * machines.value) operation_limit then at_line_end machines.rest else Err Range
+  jobs ← number_at 1 max_jobs words
+  machines ← number_at 1 max_machines jobs.rest
+  end ← if nat_le (jobs.value * machines.value) max_operations then at_line_end machines.rest else Err Range
   Ok (jobs.value, machines.value)
 
 -- a number of machines that a shop may have
 abbrev pub IsMachineCount : ℕ → Type 0
-IsMachineCount machines = (1 ≤ machines) × (machines ≤ machine_limit)
+IsMachineCount machines = (1 ≤ machines) × (machines ≤ max_machines)
 
 -- An operation on one of so many machines, whose time may be at most room.
 unfoldable pub operation_at : ℕ → ℕ → List (List ℕ) → Result (Read Operation (List (List ℕ))) Cause
@@ -93,7 +93,7 @@ rows_at n machines room text = several (λ r. line_at (row_of machines r)) (λ r
 unfoldable pub shop_at : Text → Result (Read JobShop Text) BadInput
 shop_at text = do
   head ← line_at shop_head_of text
-  rows ← rows_at head.value.0 head.value.1 total_limit head.rest
+  rows ← rows_at head.value.0 head.value.1 max_total head.rest
   Ok (record { value = record { machines = head.value.1; rows = rows.value }; rest = rows.rest })
 
 -- the shop that these bytes read as, or their first fault

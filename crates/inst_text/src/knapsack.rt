@@ -46,12 +46,12 @@ pub struct Choice {
 
 impl Model for Choice {
     ghost use Rattle.std.specs.Prelude.{ℕ, List};
-    ghost use Rattle.inst_text.specs.Limits.{item_limit};
+    ghost use Rattle.inst_text.specs.Limits.{max_items};
     ghost use Rattle.inst_text.specs.Knapsack.{AreNumbers};
 
     ghost Value = { List ℕ };
 
     ghost view = { λ c. c.numbers.items };
 
-    ghost invariant = { λ c. AreNumbers 0 item_limit c.numbers.items };
+    ghost invariant = { λ c. AreNumbers 0 max_items c.numbers.items };
 }

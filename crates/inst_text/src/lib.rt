@@ -17,8 +17,8 @@ pub use knapsack::{
     write_knapsack, written_knapsacks_are_read,
 };
 pub use limits::{
-    CAPACITY_LIMIT, COMMAND_LIMIT, ITEM_LIMIT, JOB_LIMIT, LANE_LIMIT, MACHINE_LIMIT,
-    MADE_LANE_LIMIT, MADE_SHOP_LIMIT, OPERATION_LIMIT, STATED_LIMIT, TOTAL_LIMIT, WEIGHT_LIMIT,
+    MAX_COMMANDS, MAX_ITEMS, MAX_JOBS, MAX_KNAPSACK_CAPACITY, MAX_LANES, MAX_MACHINES,
+    MAX_MADE_INSERTS, MAX_MADE_SHOP, MAX_OPERATIONS, MAX_STATED, MAX_TOTAL, MAX_WEIGHT,
 };
 pub use making::{make_knapsack, make_script, make_shop, smallest_made, states_by_hand};
 pub use plan::{

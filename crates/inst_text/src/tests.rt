@@ -201,7 +201,7 @@ fn knapsacks(rt: HostRuntime) -> Result<(), Fail> {
             &two,
         ),
         (HUNDRED_ZEROS, 5, &one),
-        (b"1 1000000000000\n2 3\n\r", CAPACITY_LIMIT, &one),
+        (b"1 1000000000000\n2 3\n\r", MAX_KNAPSACK_CAPACITY, &one),
         (b"0002 6\n02 05\n00 01", 6, &two),
     ];
     for (bytes, capacity, items) in rows {
@@ -259,7 +259,7 @@ fn choices(rt: HostRuntime) -> Result<(), Fail> {
         ),
         (
             b"0 5\nvalue 4294967295\nitems",
-            STATED_LIMIT,
+            MAX_STATED,
             &[],
             b"value 4294967295\nitems\n",
         ),
@@ -301,7 +301,7 @@ fn starts(rt: HostRuntime) -> Result<(), Fail> {
     }
     let starts = Starts {
         rows: vec![in rt.alloc();
-            vec![in rt.alloc(); 0, 3, TOTAL_LIMIT]?,
+            vec![in rt.alloc(); 0, 3, MAX_TOTAL]?,
             vec![in rt.alloc(); 12]?,
         ]?,
     };
@@ -353,12 +353,12 @@ fn scripts(rt: HostRuntime) -> Result<(), Fail> {
 #[test]
 fn longest_scripts(rt: HostRuntime) -> Result<(), Fail> {
     let mut text = Vec::new(rt.alloc());
-    for _ in 0..COMMAND_LIMIT {
+    for _ in 0..MAX_COMMANDS {
         text.extend_from_slice(b"-\n")?;
     }
     let script = read_script(rt.alloc(), &text, 1).ok().ok_or("a script")?;
     assert_eq!(rt; script.lanes.len(), 1);
-    assert_eq!(rt; script.lanes[0].len(), COMMAND_LIMIT as usize);
+    assert_eq!(rt; script.lanes[0].len(), MAX_COMMANDS as usize);
     text.extend_from_slice(b"x")?;
     for (byte, cause) in [
         (b'-', Cause::Extra),
@@ -369,7 +369,7 @@ fn longest_scripts(rt: HostRuntime) -> Result<(), Fail> {
             *last = byte;
         }
         let fault = ReadRefusal::BadInput(BadInput {
-            line: COMMAND_LIMIT + 1,
+            line: MAX_COMMANDS + 1,
             cause,
         });
         assert_eq!(rt; read_script(rt.alloc(), &text, 1).err(), Some(fault));
@@ -385,22 +385,22 @@ fn made(rt: HostRuntime) -> Result<(), Fail> {
     let smallest = make_shop(rt.alloc(), 0, 1).ok().ok_or("memory")?;
     let text = write_shop(rt.alloc(), &smallest).ok().ok_or("memory")?;
     assert_eq!(rt; text.as_slice(), b"1 1\n0 6\n".as_slice());
-    let greatest = make_knapsack(rt.alloc(), u32::MAX, ITEM_LIMIT)
+    let greatest = make_knapsack(rt.alloc(), u32::MAX, MAX_ITEMS)
         .ok()
         .ok_or("memory")?;
     let text = write_knapsack(rt.alloc(), &greatest).ok().ok_or("memory")?;
     let again = read_knapsack(rt.alloc(), &text).ok().ok_or("an instance")?;
     assert_eq!(rt; again.capacity, greatest.capacity);
     assert_eq!(rt; again.items.as_slice(), greatest.items.as_slice());
-    let greatest = make_shop(rt.alloc(), u32::MAX, MADE_SHOP_LIMIT)
+    let greatest = make_shop(rt.alloc(), u32::MAX, MAX_MADE_SHOP)
         .ok()
         .ok_or("memory")?;
     let text = write_shop(rt.alloc(), &greatest).ok().ok_or("memory")?;
     let again = read_shop(rt.alloc(), &text).ok().ok_or("a shop")?;
     assert_eq!(rt; again.rows.len(), greatest.rows.len());
-    let longest = make_script(rt.alloc(), u32::MAX, LANE_LIMIT, MADE_LANE_LIMIT)
+    let longest = make_script(rt.alloc(), u32::MAX, MAX_LANES, MAX_MADE_INSERTS)
         .ok()
         .ok_or("memory")?;
-    assert_eq!(rt; longest.lanes.len(), LANE_LIMIT as usize);
+    assert_eq!(rt; longest.lanes.len(), MAX_LANES as usize);
     Ok(())
 }

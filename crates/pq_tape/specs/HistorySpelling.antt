@@ -38,7 +38,14 @@ SpellsCall words (RemoveBelow limit) (Got e) =
     SpellsLimit limit (λ number. SpellsEntry (below_got_words number) words e)
 SpellsCall words (RemoveBelow limit) Empty = SpellsLimit limit (λ number. words ≡ below_words (codes "empty") number)
 SpellsCall words (RemoveBelow limit) Above = SpellsLimit limit (λ number. words ≡ below_words (codes "above") number)
-SpellsCall words _ _ = ⊥
+SpellsCall words (Insert e) (Got x) = ⊥
+SpellsCall words (Insert e) Empty = ⊥
+SpellsCall words (Insert e) Above = ⊥
+SpellsCall words Remove Done = ⊥
+SpellsCall words Remove Full = ⊥
+SpellsCall words Remove Above = ⊥
+SpellsCall words (RemoveBelow limit) Done = ⊥
+SpellsCall words (RemoveBelow limit) Full = ⊥
 
 -- The line of a mark: its place, its seat, and its call.
 pub record SpellsMark (place : ℕ) (words : List (List ℕ)) (m : Mark) : Type 0 where

@@ -29,7 +29,14 @@ HasLine Remove Empty = Unit {0}
 HasLine (RemoveBelow limit) (Got e) = limit ≤ key_limit
 HasLine (RemoveBelow limit) Empty = limit ≤ key_limit
 HasLine (RemoveBelow limit) Above = limit ≤ key_limit
-HasLine _ _ = ⊥
+HasLine (Insert e) (Got x) = ⊥
+HasLine (Insert e) Empty = ⊥
+HasLine (Insert e) Above = ⊥
+HasLine Remove Done = ⊥
+HasLine Remove Full = ⊥
+HasLine Remove Above = ⊥
+HasLine (RemoveBelow limit) Done = ⊥
+HasLine (RemoveBelow limit) Full = ⊥
 
 -- the limits of what a text records
 pub record IsWithinLimits (h : Recorded) : Type 0 where
@@ -65,7 +72,14 @@ call_words Remove Empty = empty_words
 call_words (RemoveBelow limit) (Got e) = below_got_words (decimal limit) (decimal e.key) (decimal e.id)
 call_words (RemoveBelow limit) Empty = below_words (codes "empty") (decimal limit)
 call_words (RemoveBelow limit) Above = below_words (codes "above") (decimal limit)
-call_words _ _ = []
+call_words (Insert e) (Got x) = []
+call_words (Insert e) Empty = []
+call_words (Insert e) Above = []
+call_words Remove Done = []
+call_words Remove Full = []
+call_words Remove Above = []
+call_words (RemoveBelow limit) Done = []
+call_words (RemoveBelow limit) Full = []
 
 -- the words of a mark's line
 abbrev pub mark_words : ℕ → Mark → List (List ℕ)

@@ -2,12 +2,12 @@
 
 ghost use Rattle.std.specs.Prelude.{◌≡◌, ◌^◌, ◌<◌, IfOk, Ok};
 ghost use Rattle.pq_io.specs.Reading.{Leaves, Gives, GivesAndLeaves, line_at};
-ghost use Rattle.inst_text.specs.Limits.{total_limit};
+ghost use Rattle.inst_text.specs.Limits.{max_total};
 ghost use Rattle.inst_text.specs.Knapsack.{Instance, IsKnapsackText, head_of, item_of, items_at, instance_at};
 ghost use Rattle.inst_text.specs.Knapsack.{knapsack_of};
 
 use crate::knapsack::{Item, Items};
-use crate::limits::{CAPACITY_LIMIT, ITEM_LIMIT, TOTAL_LIMIT, WEIGHT_LIMIT};
+use crate::limits::{MAX_ITEMS, MAX_KNAPSACK_CAPACITY, MAX_TOTAL, MAX_WEIGHT};
 use crate::whole::{FromText, read_whole};
 use pq_io::{BadInput, Cause, ReadRefusal, TextReader, WordReader, on_line};
 use std::alloc::Global;
@@ -17,8 +17,8 @@ use std::alloc::Global;
 fn head(words: &mut WordReader<'_>) -> Result<(u64, u64), Cause>
     ensures { result ≡ head_of words.old.words }
 {
-    let count = words.number(0, u64::from(ITEM_LIMIT))?;
-    let capacity = words.number(0, CAPACITY_LIMIT)?;
+    let count = words.number(0, u64::from(MAX_ITEMS))?;
+    let capacity = words.number(0, MAX_KNAPSACK_CAPACITY)?;
     words.finish()?;
     Ok((count, capacity))
 }
@@ -29,7 +29,7 @@ fn item(words: &mut WordReader<'_>, room: u64) -> Result<Item, Cause>
     requires { room < 2 ^ 32 }
     ensures { result ≡ item_of room words.old.words }
 {
-    let weight = words.number(0, u64::from(WEIGHT_LIMIT))?;
+    let weight = words.number(0, u64::from(MAX_WEIGHT))?;
     let value = words.number(0, room)?;
     words.finish()?;
     Ok(Item {
@@ -65,10 +65,10 @@ fn next_items(
     text: &mut TextReader<'_>,
     count: u64,
 ) -> Result<Vec<Item>, ReadRefusal>
-    ensures { GivesAndLeaves (λ items. items.items) result text.new (items_at count total_limit text.old) }
+    ensures { GivesAndLeaves (λ items. items.items) result text.new (items_at count max_total text.old) }
 {
     let mut items = Vec::with_capacity(alloc, count as usize)?;
-    let mut room = u64::from(TOTAL_LIMIT);
+    let mut room = u64::from(MAX_TOTAL);
     for _ in 0..count {
         let item = next_item(text, room)?;
         room -= u64::from(item.value);

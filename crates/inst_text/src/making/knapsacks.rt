@@ -1,7 +1,7 @@
 //! Making a knapsack.
 
 ghost use Rattle.std.specs.Prelude.{◌≡◌, ◌≤◌, IfOk};
-ghost use Rattle.inst_text.specs.Limits.{item_limit};
+ghost use Rattle.inst_text.specs.Limits.{max_items};
 ghost use Rattle.inst_text.specs.Generator.{next_state, item_from, made_knapsack};
 
 use crate::knapsack::{Item, Items};
@@ -28,7 +28,7 @@ fn next_item(generator: &mut Generator) -> Item
 ///
 /// `NoMemory` comes where there is none for the items. Linear in their number.
 pub fn make_knapsack(alloc: Global, seed: u32, size: u32) -> Result<Items, NoMemory>
-    requires { size ≤ item_limit }
+    requires { size ≤ max_items }
     ensures { IfOk result (λ i. i ≡ made_knapsack seed size) }
 {
     let mut generator = Generator::new(seed);

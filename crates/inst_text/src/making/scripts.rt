@@ -2,7 +2,7 @@
 
 ghost use Rattle.std.specs.Prelude.{◌≡◌, ◌≤◌, ◌<◌, ◌+◌, ◌*◌, IfOk, ℕ};
 ghost use Rattle.pq_words.specs.Limits.{id_limit};
-ghost use Rattle.inst_text.specs.Limits.{lane_limit, made_lane_limit};
+ghost use Rattle.inst_text.specs.Limits.{max_lanes, max_made_inserts};
 ghost use Rattle.inst_text.specs.Generator.{state_after, made_lane, made_script};
 
 use crate::making::generator::Generator;
@@ -19,7 +19,7 @@ fn next_lane(
     first: u32,
     size: u32,
 ) -> Result<Vec<Act>, NoMemory>
-    requires size { size ≤ made_lane_limit }
+    requires size { size ≤ max_made_inserts }
     requires ids { first + size ≤ id_limit }
     ensures { IfOk result (λ lane. (seed : ℕ) → generator.old.state ≡ state_after seed first
         → (lane.items ≡ made_lane seed size first) × (generator.new.state ≡ state_after seed (first + size))) }
@@ -41,8 +41,8 @@ fn next_lane(
 /// `NoMemory` comes where there is none for the commands. Linear in their number.
 pub fn make_script(alloc: Global, seed: u32, lanes: u32, size: u32) -> Result<Script, NoMemory>
     requires some { 1 ≤ lanes }
-    requires few { lanes ≤ lane_limit }
-    requires size { size ≤ made_lane_limit }
+    requires few { lanes ≤ max_lanes }
+    requires size { size ≤ max_made_inserts }
     ensures { IfOk result (λ s. s ≡ made_script seed lanes size) }
 {
     let mut generator = Generator::new(seed);

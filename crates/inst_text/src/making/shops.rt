@@ -1,7 +1,7 @@
 //! Making a job shop.
 
 ghost use Rattle.std.specs.Prelude.{◌≡◌, ◌≤◌, ◌<◌, ◌+◌, ◌*◌, IfOk, map, ℕ};
-ghost use Rattle.inst_text.specs.Limits.{made_shop_limit};
+ghost use Rattle.inst_text.specs.Limits.{max_made_shop};
 ghost use Rattle.inst_text.specs.Generator.{state_after, drawn, next_state, made_row, made_shop};
 
 use crate::making::generator::Generator;
@@ -15,7 +15,7 @@ const MOST: u32 = 20;
 // A job of so many operations, on the machines from a drawn one on.
 fn next_row(alloc: Global, generator: &mut Generator, size: u32) -> Result<Vec<Operation>, NoMemory>
     requires some { 1 ≤ size }
-    requires few { size ≤ made_shop_limit }
+    requires few { size ≤ max_made_shop }
     ensures row { IfOk result (λ row. (seed n : ℕ) → generator.old.state ≡ state_after seed n
         → (row.items ≡ made_row seed size n) × (generator.new.state ≡ state_after seed (n + (size + 1)))) }
 {
@@ -35,7 +35,7 @@ fn next_row(alloc: Global, generator: &mut Generator, size: u32) -> Result<Vec<O
 /// `NoMemory` comes where there is none for the operations. Linear in their number.
 pub fn make_shop(alloc: Global, seed: u32, size: u32) -> Result<Jobs, NoMemory>
     requires some { 1 ≤ size }
-    requires few { size ≤ made_shop_limit }
+    requires few { size ≤ max_made_shop }
     ensures { IfOk result (λ s. s ≡ made_shop seed size) }
 {
     let mut generator = Generator::new(seed);

@@ -3,7 +3,7 @@
 ghost use Rattle.std.specs.Prelude.{◌≡◌, ◌≤◌, IfOk, Ok, List, ℕ, length};
 ghost use Rattle.pq_io.specs.Reading.{Leaves, Gives, GivesAndLeaves, on_line, line_at};
 ghost use Rattle.inst_text.specs.declared.plan.Claimed.{Claimed};
-ghost use Rattle.inst_text.specs.Limits.{item_limit};
+ghost use Rattle.inst_text.specs.Limits.{max_items};
 ghost use Rattle.inst_text.specs.Several.{both};
 ghost use Rattle.inst_text.specs.Knapsack.{Instance, instance_at};
 ghost use Rattle.inst_text.specs.Plans.{item_number_of, item_number_at, item_numbers_of, choice_of, choice_at};
@@ -19,7 +19,7 @@ use std::alloc::Global;
 // The item number below `count`, and not below `low`, that the word spells.
 #[tactic(auto, unfolding(crate::specs::Plans::item_number_of))]
 fn item_number(word: &[u8], count: u64, low: u64) -> Result<u32, Cause>
-    requires { count ≤ item_limit }
+    requires { count ≤ max_items }
     ensures { result ≡ item_number_of count low word.now }
 {
     let number = digits(word, low, count)?;
@@ -32,7 +32,7 @@ fn item_number(word: &[u8], count: u64, low: u64) -> Result<u32, Cause>
 // Takes an item number, and tells the line where it is faulty.
 #[tactic(auto, unfolding(crate::specs::Plans::item_number_at))]
 fn next_number(words: &mut WordReader<'_>, count: u64, low: u64) -> Result<u32, BadInput>
-    requires { count ≤ item_limit }
+    requires { count ≤ max_items }
     ensures exact { Leaves (λ n. n) result words.new.words
         (on_line words.old.number (item_number_at count low words.old.words)) }
     ensures line { words.new.number ≡ words.old.number }
@@ -48,7 +48,7 @@ fn item_numbers(
     words: &mut WordReader<'_>,
     count: u64,
 ) -> Result<Vec<u32>, ReadRefusal>
-    requires { count ≤ item_limit }
+    requires { count ≤ max_items }
     ensures { Gives (λ numbers. numbers.items) result
         (on_line words.old.number (item_numbers_of count 0 words.old.words)) }
 {
@@ -69,7 +69,7 @@ fn next_numbers(
     text: &mut TextReader<'_>,
     count: u64,
 ) -> Result<Vec<u32>, ReadRefusal>
-    requires { count ≤ item_limit }
+    requires { count ≤ max_items }
     ensures { GivesAndLeaves (λ numbers. numbers.items) result text.new (line_at (choice_of count) text.old) }
 {
     let mut words = text.next_line()?;
@@ -87,7 +87,7 @@ pub fn next_choice(
     text: &mut TextReader<'_>,
     count: u64,
 ) -> Result<Claimed<Choice>, ReadRefusal>
-    requires { count ≤ item_limit }
+    requires { count ≤ max_items }
     ensures { GivesAndLeaves (λ c. c) result text.new (choice_at count text.old) }
 {
     let stated = next_stated(text, b"value")?;

@@ -3,7 +3,7 @@
 ghost use Rattle.std.specs.Prelude.{◌≡◌, ◌≤◌, ◌↔◌, ◌++◌, List, [], ◌∷◌, ℕ, length, Ok};
 ghost use Rattle.pq_io.specs.Inputs.{longest_input};
 ghost use Rattle.inst_text.specs.declared.plan.Claimed.{Claimed};
-ghost use Rattle.inst_text.specs.Limits.{stated_limit};
+ghost use Rattle.inst_text.specs.Limits.{max_stated};
 ghost use Rattle.inst_text.specs.Knapsack.{Instance, IsInstance, AreNumbers, IsKnapsackText};
 ghost use Rattle.inst_text.specs.Knapsack.{knapsack_text, choice_text};
 ghost use Rattle.inst_text.specs.Shop.{JobShop, IsJobShop, IsShopText, shop_text, starts_text};
@@ -25,14 +25,14 @@ pub fn shop_plan_texts_are_read()
 /// Law: the text of an instance, and behind it the text of a choice of its items, read as the two.
 pub fn written_choices_are_read()
     ensures { (i : Instance) (c : Claimed (List ℕ)) → IsInstance i
-        → c.stated ≤ stated_limit → AreNumbers 0 (length i.items) c.plan
+        → c.stated ≤ max_stated → AreNumbers 0 (length i.items) c.plan
         → knapsack_plan_of (knapsack_text i ++ choice_text c.stated c.plan) ≡ Ok (i, c) }
 {}
 
 /// Law: the text of a shop, and behind it the text of start times of its operations, read as the two.
 pub fn written_starts_are_read()
     ensures { (s : JobShop) (c : Claimed (List (List ℕ))) → IsJobShop s
-        → c.stated ≤ stated_limit → AreStartsOf s c.plan
+        → c.stated ≤ max_stated → AreStartsOf s c.plan
         → shop_plan_of (shop_text s ++ starts_text c.stated c.plan) ≡ Ok (s, c) }
 {}
 
@@ -40,7 +40,7 @@ pub fn written_starts_are_read()
 /// this choice, with the instance before it.
 pub fn choices_are_read_behind()
     ensures { (bytes : List ℕ) (i : Instance) (c : Claimed (List ℕ)) → IsKnapsackText (bytes ++ 10 ∷ []) i
-        → c.stated ≤ stated_limit → AreNumbers 0 (length i.items) c.plan
+        → c.stated ≤ max_stated → AreNumbers 0 (length i.items) c.plan
         → length (bytes ++ 10 ∷ choice_text c.stated c.plan) ≤ longest_input
         → knapsack_plan_of (bytes ++ 10 ∷ choice_text c.stated c.plan) ≡ Ok (i, c) }
 {}
@@ -49,7 +49,7 @@ pub fn choices_are_read_behind()
 /// these start times, with the shop before them.
 pub fn starts_are_read_behind()
     ensures { (bytes : List ℕ) (s : JobShop) (c : Claimed (List (List ℕ))) → IsShopText (bytes ++ 10 ∷ []) s
-        → c.stated ≤ stated_limit → AreStartsOf s c.plan
+        → c.stated ≤ max_stated → AreStartsOf s c.plan
         → length (bytes ++ 10 ∷ starts_text c.stated c.plan) ≤ longest_input
         → shop_plan_of (bytes ++ 10 ∷ starts_text c.stated c.plan) ≡ Ok (s, c) }
 {}

@@ -3,13 +3,13 @@
 ghost use Rattle.std.specs.Prelude.{◌≡◌, map, IfOk, Ok, List, ℕ, length};
 ghost use Rattle.pq_io.specs.Reading.{Leaves, Gives, GivesAndLeaves, number_at, on_line, line_at};
 ghost use Rattle.inst_text.specs.declared.plan.Claimed.{Claimed};
-ghost use Rattle.inst_text.specs.Limits.{total_limit};
+ghost use Rattle.inst_text.specs.Limits.{max_total};
 ghost use Rattle.inst_text.specs.Several.{both};
 ghost use Rattle.inst_text.specs.Shop.{JobShop, shop_at};
 ghost use Rattle.inst_text.specs.Plans.{line_starts_on, start_row_of, start_rows_at, starts_at};
 ghost use Rattle.inst_text.specs.Plans.{IsShopPlanText, shop_plan_of};
 
-use crate::limits::TOTAL_LIMIT;
+use crate::limits::MAX_TOTAL;
 use crate::plan::Claimed;
 use crate::plan::stated::next_stated;
 use crate::shop::{Jobs, Starts, next_shop};
@@ -20,11 +20,11 @@ use std::alloc::Global;
 // Takes a start time, and tells the line where it is faulty.
 fn next_start(words: &mut WordReader<'_>) -> Result<u32, BadInput>
     ensures exact { Leaves (λ t. t) result words.new.words
-        (on_line words.old.number (number_at 0 total_limit words.old.words)) }
+        (on_line words.old.number (number_at 0 max_total words.old.words)) }
     ensures line { words.new.number ≡ words.old.number }
 {
     let line = words.line();
-    let start = on_line(line, words.number(0, u64::from(TOTAL_LIMIT)))?;
+    let start = on_line(line, words.number(0, u64::from(MAX_TOTAL)))?;
     Ok(start as u32)
 }
 

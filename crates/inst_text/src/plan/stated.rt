@@ -4,7 +4,7 @@ ghost use Rattle.std.specs.Prelude.{◌≡◌};
 ghost use Rattle.pq_io.specs.Reading.{Leaves, line_at};
 ghost use Rattle.inst_text.specs.Plans.{stated_of};
 
-use crate::limits::STATED_LIMIT;
+use crate::limits::MAX_STATED;
 use pq_io::{BadInput, Cause, TextReader, WordReader, on_line};
 
 // The number that is stated behind this word.
@@ -13,7 +13,7 @@ fn stated(words: &mut WordReader<'_>, word: &[u8]) -> Result<u32, Cause>
     ensures { result ≡ stated_of word.now words.old.words }
 {
     words.fixed(word)?;
-    let number = words.number(0, u64::from(STATED_LIMIT))?;
+    let number = words.number(0, u64::from(MAX_STATED))?;
     words.finish()?;
     Ok(number as u32)
 }

@@ -3,7 +3,7 @@
 ghost use Rattle.std.specs.Prelude.{◌≡◌};
 ghost use Rattle.inst_text.specs.Script.{room_for, insert_of, remove_of, remove_below_of, lane_of, script_line_of};
 
-use crate::limits::COMMAND_LIMIT;
+use crate::limits::MAX_COMMANDS;
 use pq_io::{Cause, WordReader};
 use pq_model::{Act, read_entry};
 use pq_words::KEY_LIMIT;
@@ -22,7 +22,7 @@ pub(crate) enum ScriptLine {
 fn has_room(commands: u32) -> Result<(), Cause>
     ensures { result ≡ room_for commands }
 {
-    if commands < COMMAND_LIMIT {
+    if commands < MAX_COMMANDS {
         Ok(())
     } else {
         Err(Cause::Extra)

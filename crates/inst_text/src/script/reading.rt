@@ -3,7 +3,7 @@
 ghost use Rattle.std.specs.Prelude.{◌≡◌, ◌≤◌, IfOk, Ok, List, map};
 ghost use Rattle.pq_io.specs.Reading.{Gives, on_line};
 ghost use Rattle.pq_model.specs.declared.marks.Act.{Act};
-ghost use Rattle.inst_text.specs.Limits.{lane_limit};
+ghost use Rattle.inst_text.specs.Limits.{max_lanes};
 ghost use Rattle.inst_text.specs.Script.{IsScriptText, script_in, script_line_of, script_of};
 
 use crate::script::Script;
@@ -34,7 +34,7 @@ fn next_lanes(
     allowed: u32,
 ) -> Result<Vec<Vec<Act>>, ReadRefusal>
     requires some { 1 ≤ allowed }
-    requires few { allowed ≤ lane_limit }
+    requires few { allowed ≤ max_lanes }
     ensures { Gives (λ lanes. map (λ lane. lane.items) lanes.items) result (script_in allowed text.old.lines) }
 {
     let mut lanes = Vec::with_capacity(alloc, allowed as usize)?;
@@ -70,7 +70,7 @@ fn next_lanes(
 /// pass over the text, which is not copied; it takes memory for the commands alone.
 pub fn read_script(alloc: Global, bytes: &[u8], lanes: u32) -> Result<Script, ReadRefusal>
     requires some { 1 ≤ lanes }
-    requires few { lanes ≤ lane_limit }
+    requires few { lanes ≤ max_lanes }
     // Which lanes, and which fault it is.
     ensures exact { Gives (λ s. s) result (script_of lanes bytes.now) }
     // What is read is spelled so, in no more lanes than are allowed.
@@ -85,7 +85,7 @@ pub fn read_script(alloc: Global, bytes: &[u8], lanes: u32) -> Result<Script, Re
 #[tactic(auto, unfolding(crate::specs::Script::script_of))]
 fn whole_script(alloc: Global, bytes: &[u8], lanes: u32) -> Result<Script, ReadRefusal>
     requires some { 1 ≤ lanes }
-    requires few { lanes ≤ lane_limit }
+    requires few { lanes ≤ max_lanes }
     ensures { Gives (λ s. s) result (script_of lanes bytes.now) }
 {
     let mut text = TextReader::open(bytes)?;

@@ -2,11 +2,11 @@
 
 ghost use Rattle.std.specs.Prelude.{◌≡◌, ◌-◌, ◌≤◌, ◌^◌, ◌<◌, map, IfOk, Ok};
 ghost use Rattle.pq_io.specs.Reading.{Leaves, Gives, GivesAndLeaves, on_line, line_at};
-ghost use Rattle.inst_text.specs.Limits.{total_limit};
+ghost use Rattle.inst_text.specs.Limits.{max_total};
 ghost use Rattle.inst_text.specs.Shop.{JobShop, IsMachineCount, IsShopText, row_time, shop_head_of, operation_at};
 ghost use Rattle.inst_text.specs.Shop.{line_operations_at, row_of, rows_at, shop_at, shop_of};
 
-use crate::limits::{JOB_LIMIT, MACHINE_LIMIT, OPERATION_LIMIT, TOTAL_LIMIT};
+use crate::limits::{MAX_JOBS, MAX_MACHINES, MAX_OPERATIONS, MAX_TOTAL};
 use crate::shop::{Jobs, Operation};
 use crate::whole::{FromText, read_whole};
 use pq_io::{BadInput, Cause, ReadRefusal, TextReader, WordReader, on_line};
@@ -17,9 +17,9 @@ use std::alloc::Global;
 fn head(words: &mut WordReader<'_>) -> Result<(u64, u64), Cause>
     ensures { result ≡ shop_head_of words.old.words }
 {
-    let jobs = words.number(1, u64::from(JOB_LIMIT))?;
-    let machines = words.number(1, u64::from(MACHINE_LIMIT))?;
-    if jobs * machines > u64::from(OPERATION_LIMIT) {
+    let jobs = words.number(1, u64::from(MAX_JOBS))?;
+    let machines = words.number(1, u64::from(MAX_MACHINES))?;
+    if jobs * machines > u64::from(MAX_OPERATIONS) {
         return Err(Cause::Range);
     }
     words.finish()?;
@@ -122,10 +122,10 @@ fn next_rows(
 ) -> Result<Vec<Vec<Operation>>, ReadRefusal>
     requires { IsMachineCount machines }
     ensures { GivesAndLeaves (λ rows. map (λ row. row.items) rows.items) result text.new
-        (rows_at jobs machines total_limit text.old) }
+        (rows_at jobs machines max_total text.old) }
 {
     let mut rows = Vec::with_capacity(alloc, jobs as usize)?;
-    let mut room = u64::from(TOTAL_LIMIT);
+    let mut room = u64::from(MAX_TOTAL);
     for _ in 0..jobs {
         let row = next_row(alloc, text, machines, &mut room)?;
         rows.push(row)?;

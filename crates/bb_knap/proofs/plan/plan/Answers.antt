@@ -1,7 +1,7 @@
 use Rattle.std.proofs.Common.{◌≡◌, ℕ, ◌≤◌, subst, ◌<◌, List, [], ◌∷◌, ◌++◌, length, get_or, sym, ap, ◌∙◌, arith}
 use Rattle.std.specs.List.Sorted.{IsPermutation}
 use Rattle.std.proofs.lemmas.List.{take_all}
-use Rattle.inst_text.specs.Limits.{item_limit}
+use Rattle.inst_text.specs.Limits.{max_items}
 use Rattle.bb_knap.specs.Order.{order_of}
 use Rattle.bb_knap.specs.Branching.{taken, taken_of}
 use Rattle.bb_knap.specs.TreeLawsHold.InOrder.{length-order_below}
@@ -41,7 +41,7 @@ invariant_of-result c =
     let e : c.loop-place.numbers.items ≡ taken_of i c.args.node.now.decisions = c.loop-place.invariant ∙ ap (λ ks. taken ks c.args.node.now.decisions) (take_all c.loop-place.place (order_of i.items) end) in
     let P : List ℕ → Type 0 = λ xs. IsPermutation xs c.sort.new.self.items in
     let plan = is_plan i c.args.node.now.decisions c.sort.new.self.items (subst P e c.in_ok-sort.ensures.permutation) c.in_ok-sort.ensures.sorted in
-    AreNumbers-more 0 (length i.items) item_limit c.sort.new.self.items c.requires.limits.count plan.chosen
+    AreNumbers-more 0 (length i.items) max_items c.sort.new.self.items c.requires.limits.count plan.chosen
 
 pub returns : goal.returns
 returns c =

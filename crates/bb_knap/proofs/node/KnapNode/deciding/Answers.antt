@@ -1,5 +1,5 @@
 use Rattle.std.proofs.Common.{◌≡◌, ℕ, ◌+◌, ◌*◌, ◌/◌, ◌%◌, ◌<◌, ◌≤◌, List, [], ◌∷◌, ◌++◌, cond, length, take, subst, sym, ap, ◌∙◌, arith}
-use Rattle.inst_text.specs.Limits.{item_limit}
+use Rattle.inst_text.specs.Limits.{max_items}
 use Rattle.bb_knap.specs.Branching.{Node}
 use Rattle.bb_knap.specs.Decisions.{word_bits, all_bits, words_of, IsFullWords, decisions_in}
 use Rattle.bb_knap.proofs.FullWords.{length-in_use}
@@ -21,7 +21,7 @@ invariant_of-result c =
     let n = c.self.inside in
     let inner : n.count % 64 < 63 = c.if-count-lt63.true in
     let bit : c.from.result < 2 = rw c.from.ensures (bool_byte-lt c.args.taken) in
-    let few : n.count + 1 ≤ item_limit =
+    let few : n.count + 1 ≤ max_items =
     omega (arith, c.requires, ap (λ m. length m.decisions) c.self.view_is, length-bits (take (n.count / 64) (words_of n.full)) n.count n.last (length-in_use (n.count / 64) n.full (c.self.invariant.0.full))) in
     let P : ℕ → Type 0 = λ k. IsFullWords k n.full in (
       record {
@@ -58,7 +58,7 @@ pub invariant_of-result-2 : goal.invariant_of-result-2
 invariant_of-result-2 c =
     let n = c.self.inside in
     let full : 63 ≤ n.count % 64 = c.if-count-lt63.false in
-    let few : n.count + 1 ≤ item_limit =
+    let few : n.count + 1 ≤ max_items =
     omega (arith, c.requires, ap (λ m. length m.decisions) c.self.view_is, length-bits (take (n.count / 64) (words_of n.full)) n.count n.last (length-in_use (n.count / 64) n.full (c.self.invariant.0.full))) in
     let P : ℕ → Type 0 = λ k. IsFullWords k c.in_ok-with.field-0 in (
       record { full = subst P (next_words n.count full) c.in_ok-with.ensures.full; last = none-last n.count; few = few },

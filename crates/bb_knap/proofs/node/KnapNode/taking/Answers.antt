@@ -1,6 +1,6 @@
 use Rattle.std.proofs.Common.{◌≡◌, ℕ, ◌+◌, ◌-◌, ◌/◌, ◌%◌, ◌≤◌, List, [], ◌∷◌, ◌++◌, take, subst, ap, ◌∙◌, arith}
 use Rattle.std.specs.Prelude.{min, IfOk}
-use Rattle.inst_text.specs.Limits.{capacity_limit}
+use Rattle.inst_text.specs.Limits.{max_knapsack_capacity}
 use Rattle.bb_knap.specs.Branching.{Node}
 use Rattle.bb_knap.specs.Decisions.{word_bits, all_bits, words_of, AreDecisions}
 use Rattle.bb_knap.proofs.node.KnapNode.taking.Goals as goal
@@ -16,7 +16,7 @@ invariant_of-node c =
       last = c.self.invariant.0.last;
       few = c.self.invariant.0.few;
     } in
-    let small : n.room - c.from.result ≤ capacity_limit = omega (arith, c.self.invariant.1) in
+    let small : n.room - c.from.result ≤ max_knapsack_capacity = omega (arith, c.self.invariant.1) in
     (kept, small)
 
 pub returns : goal.returns

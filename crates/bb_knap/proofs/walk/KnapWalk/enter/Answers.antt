@@ -1,6 +1,6 @@
 use Rattle.std.proofs.Common.{◌≡◌, ℕ, ◌+◌, ◌-◌, ◌<◌, ◌≤◌, Bool, true, false, List, [], ◌∷◌, ◌++◌, length, get_or, map, sym, ap, ◌∙◌, subst, refl, arith}
 use Rattle.std.proofs.lemmas.Bool.{le-leb, lt-leb}
-use Rattle.inst_text.specs.Limits.{capacity_limit}
+use Rattle.inst_text.specs.Limits.{max_knapsack_capacity}
 use Rattle.inst_text.specs.declared.knapsack.Item.{Item}
 use Rattle.bb_problem.specs.Tree.{below}
 use Rattle.bb_knap.specs.Order.{order_of}
@@ -60,7 +60,7 @@ invariant_of-self-then-fits c =
     let by_weight : Q c.from-then-fits.result = subst Q (sym c.from-then-fits.ensures) by_item in
     let R : List Bool → Type 0 = λ path. LeadsTo i path (w.room - c.from-then-fits.result) (w.value + c.numbered_item-item.result.value) in
     let leads : R c.push.new.self.items = subst R (sym pushed) by_weight in
-    let small : w.room - c.from-then-fits.result ≤ capacity_limit = omega (arith, c.self.invariant.1) in
+    let small : w.room - c.from-then-fits.result ≤ max_knapsack_capacity = omega (arith, c.self.invariant.1) in
     (leads, small)
 
 pub invariant_of-self-else-fits : goal.invariant_of-self-else-fits

@@ -1,5 +1,5 @@
 use Rattle.std.proofs.Common.{◌≡◌, ◌≤◌, List, Bool, [], ◌∷◌, ap, refl, arith, subst, sym}
-use Rattle.inst_text.specs.Limits.{capacity_limit}
+use Rattle.inst_text.specs.Limits.{max_knapsack_capacity}
 use Rattle.bb_knap.specs.Order.{order_of}
 use Rattle.bb_knap.specs.Plans.{weight_of, value_of}
 use Rattle.bb_knap.specs.Branching.{taken_of}
@@ -19,7 +19,7 @@ invariant_of-result c =
       room = omega (arith, ap (weight_of i.items) none, c.capacity.ensures.capacity);
       value = omega (arith, ap (value_of i.items) none);
     } in
-    let small : c.capacity.result ≤ capacity_limit = omega (arith, c.capacity.ensures.capacity, c.capacity.ensures.within_limits.capacity) in
+    let small : c.capacity.result ≤ max_knapsack_capacity = omega (arith, c.capacity.ensures.capacity, c.capacity.ensures.within_limits.capacity) in
     (subst P (sym c.in_ok-with_capacity.ensures.items) at_root, small)
 
 pub returns : goal.returns

@@ -1,7 +1,7 @@
 use Rattle.std.proofs.Common.{◌≡◌, ℕ, ◌+◌, ◌-◌, ◌<◌, ◌≤◌, Bool, false, List, [], ◌∷◌, ◌++◌, set, length, get_or, take, sym, ap, ◌∙◌, subst, refl, arith}
 use Rattle.std.proofs.lemmas.List.{take_more_set}
 use Rattle.std.proofs.Math.Seq.{take-set-lt}
-use Rattle.inst_text.specs.Limits.{capacity_limit}
+use Rattle.inst_text.specs.Limits.{max_knapsack_capacity}
 use Rattle.inst_text.specs.declared.knapsack.Item.{Item}
 use Rattle.bb_knap.specs.Order.{order_of}
 use Rattle.bb_knap.specs.Plans.{item_at}
@@ -61,7 +61,7 @@ invariant_of-self-2 c =
     let by_item : P c.numbered_item-item.result = subst P (sym item) left in
     let Q : ℕ → Type 0 = λ n. LeadsTo i new (w.room + n) (w.value - c.numbered_item-item.result.value) in
     let leads : Q c.from.result = subst Q (sym c.from.ensures) by_item in
-    let small : w.room + c.from.result ≤ capacity_limit = omega (arith, leads.room, c.items.ensures.within_limits.capacity) in
+    let small : w.room + c.from.result ≤ max_knapsack_capacity = omega (arith, leads.room, c.items.ensures.within_limits.capacity) in
     (leads, small)
 
 pub returns : goal.returns
