@@ -1,7 +1,7 @@
 -- The makespan is the greatest end of an operation, and a bound of what a best schedule starts at.
 use Rattle.std.proofs.Common.{◌≡◌, ℕ, suc, ◌+◌, ◌<◌, ◌≤◌, List, [], ◌∷◌, ◌++◌, inl, inr, length, get_or, arith}
 use Rattle.std.proofs.lemmas.Bool.{cases_lt}
-use Rattle.inst_text.specs.Limits.{total_limit}
+use Rattle.inst_text.specs.Limits.{max_total}
 use Rattle.inst_text.specs.declared.shop.Operation.{Operation}
 use Rattle.inst_text.specs.Shop.{JobShop, IsJobShop, AreStarts}
 use Rattle.bb_shop.specs.Plans.{step_at, row_at, end_at, IsOperation, AreShaped, IsFeasible, row_end, rows_end, makespan, IsCheapest}
@@ -71,7 +71,7 @@ pub root_bound_below : (s : JobShop) (starts : List (List ℕ)) → IsJobShop s 
 root_bound_below s starts shop feasible = bounded s [] (makespan s starts) shop (reached s starts shop feasible)
 
 -- a best schedule costs no more than that of some whole order, and so is within the sum of all times
-best_within : (s : JobShop) (starts : List (List ℕ)) → IsJobShop s → IsCheapest s starts → makespan s starts ≤ total_limit
+best_within : (s : JobShop) (starts : List (List ℕ)) → IsJobShop s → IsCheapest s starts → makespan s starts ≤ max_total
 best_within s starts shop best =
     let whole = goes_on s [] shop tt in
     let name = [] ++ whole.0 in
@@ -81,7 +81,7 @@ best_within s starts shop best =
 pub best_starts_early : (s : JobShop) (starts : List (List ℕ)) → IsJobShop s → IsCheapest s starts → AreStarts starts
 best_starts_early s starts shop best =
     let shaped = best.feasible.shaped in
-    rows_starts total_limit starts (λ j k row step.
+    rows_starts max_total starts (λ j k row step.
     let job : j < length s.rows = omega (arith, row, shaped.rows) in
     let within : k < s.machines = omega (arith, step, length-times s starts j shaped job) in
     omega (arith, end_within_makespan s starts j k shop shaped (job, within), best_within s starts shop best))

@@ -2,7 +2,7 @@
 use Rattle.std.proofs.Common.{◌≡◌, ℕ, zero, suc, ◌+◌, ◌-◌, ◌<◌, ◌≤◌, List, [], ◌∷◌, ◌++◌, refl, sym, ap, ◌∙◌, length, set, take, drop, replicate, arith}
 use Rattle.std.proofs.lemmas.List.{take-append-le, take-set-le, drop-append-le, drop-set-lt, drop-set-add, get_or-take, get_or-drop, get_or_append_left, get_or-set_other, length-set, length-drop, length-replicate, length_push, take-replicate, drop-replicate, drop_all}
 use Rattle.inst_text.specs.declared.shop.Operation.{Operation}
-use Rattle.inst_text.specs.Limits.{total_limit}
+use Rattle.inst_text.specs.Limits.{max_total}
 use Rattle.bb_shop.specs.Dispatching.{number_in}
 use Rattle.bb_shop.specs.Branching.{Node}
 use Rattle.bb_shop.specs.Working.{IsKept, part, ending, child_by}
@@ -91,7 +91,7 @@ set_within limit (x ∷ xs) zero y (suc k) le small = le
 set_within limit (x ∷ xs) (suc i) y zero le small = le
 set_within limit (x ∷ xs) (suc i) y (suc k) le small = set_within limit xs i y k le small
 
-pub IsKept-child : (n m : ℕ) (xs : List ℕ) (o : Operation) (j end step : ℕ) → IsKept n m xs → end ≤ total_limit → IsKept n m (dispatched_list n m xs o j end step)
+pub IsKept-child : (n m : ℕ) (xs : List ℕ) (o : Operation) (j end step : ℕ) → IsKept n m xs → end ≤ max_total → IsKept n m (dispatched_list n m xs o j end step)
 IsKept-child n m xs o j end step kept small =
     let one = set xs j end in
     let two = set one (n + o.machine) end in
@@ -101,7 +101,7 @@ IsKept-child n m xs o j end step kept small =
       long = omega (arith, kept.long, size, length_push three j);
       within =
           λ (k : ℕ) (lt : k < n + m).
-          let still = set_within total_limit one (n + o.machine) end k (set_within total_limit xs j end k (kept.within k lt) small) small in
+          let still = set_within max_total one (n + o.machine) end k (set_within max_total xs j end k (kept.within k lt) small) small in
           omega (arith, get_or_append_left three (j ∷ []) 0 k (omega (arith, lt, size, kept.long)), get_or-set_other two (n + m + j) k step 0 (λ e. omega (arith, e, lt)), still);
     }
 

@@ -3,7 +3,7 @@ use Rattle.std.proofs.Common.{◌≡◌, ℕ, zero, suc, ◌+◌, ◌*◌, ◌<�
 use Rattle.std.specs.Prelude.{min, max}
 use Rattle.std.proofs.lemmas.Bool.Decides.{eqb_tells}
 use Rattle.std.proofs.lemmas.List.{get_or-set_same, get_or-set_other, drop_more}
-use Rattle.inst_text.specs.Limits.{total_limit}
+use Rattle.inst_text.specs.Limits.{max_total}
 use Rattle.inst_text.specs.declared.shop.Operation.{Operation}
 use Rattle.inst_text.specs.Shop.{JobShop, IsJobShop, row_time, rows_time}
 use Rattle.bb_shop.specs.TreeLawsHold.Times.{row_time-drop, row_time-le}
@@ -35,7 +35,7 @@ time-with_load l (Busy head time tail) = omega arith
 -- the numbers of a load are small
 abbrev pub IsSmall : ℕ → Load → Type 0
 IsSmall limit Idle = Unit {0}
-IsSmall limit (Busy head time tail) = (head ≤ 2 * total_limit) × (time ≤ limit) × (tail ≤ total_limit)
+IsSmall limit (Busy head time tail) = (head ≤ 2 * max_total) × (time ≤ limit) × (tail ≤ max_total)
 
 IsSmall-more : (n m : ℕ) (a : Load) → n ≤ m → IsSmall n a → IsSmall m a
 IsSmall-more n m Idle le small = tt
@@ -47,25 +47,25 @@ IsSmall-joined n m Idle b small more = IsSmall-more m (n + m) b (omega arith) mo
 IsSmall-joined n m (Busy head time tail) Idle small more = IsSmall-more n (n + m) (Busy head time tail) (omega arith) small
 IsSmall-joined n m (Busy head time tail) (Busy h t l) small more = (omega (arith, small.0), omega (arith, small.1, more.1), omega (arith, small.2))
 
-IsSmall-load_of : (m head tail : ℕ) (o : Operation) → head ≤ 2 * total_limit → tail ≤ total_limit → IsSmall o.time (load_of m o head tail)
+IsSmall-load_of : (m head tail : ℕ) (o : Operation) → head ≤ 2 * max_total → tail ≤ max_total → IsSmall o.time (load_of m o head tail)
 IsSmall-load_of m head tail o low short =
     elim (eqb_tells o.machine m) [
       | inl is ↦ rw (is.0) (low, omega arith, short)
       | inr is ↦ rw (is.0) tt
     ]
 
-pub IsSmall-job_load : (machines : List ℕ) (m ready : ℕ) (os : List Operation) → AreUpTo total_limit machines → ready + row_time os ≤ 2 * total_limit → row_time os ≤ total_limit
+pub IsSmall-job_load : (machines : List ℕ) (m ready : ℕ) (os : List Operation) → AreUpTo max_total machines → ready + row_time os ≤ 2 * max_total → row_time os ≤ max_total
     → IsSmall (row_time os) (job_load machines m ready os)
 unfolding job_load
 IsSmall-job_load machines m ready [] within early short = tt
 IsSmall-job_load machines m ready (o ∷ os) within early short =
-    let head : head_of machines ready o + row_time (o ∷ os) ≤ 2 * total_limit = omega (arith, within.each o.machine, early, short) in
+    let head : head_of machines ready o + row_time (o ∷ os) ≤ 2 * max_total = omega (arith, within.each o.machine, early, short) in
     IsSmall-joined o.time (row_time os) (load_of m o (head_of machines ready o) (row_time os)) (job_load machines m (head_of machines ready o + o.time) os)
     (IsSmall-load_of m (head_of machines ready o) (row_time os) o (omega (arith, head)) (omega (arith, short)))
     (IsSmall-job_load machines m (head_of machines ready o + o.time) os within (omega (arith, head)) (omega (arith, short)))
 
 -- the loads of all jobs from one on
-pub IsSmall-from : (s : JobShop) (steps jobs machines : List ℕ) (m j n : ℕ) → IsJobShop s → AreUpTo total_limit jobs → AreUpTo total_limit machines → ((i : ℕ) → row_time (row_at s.rows i) ≤ total_limit)
+pub IsSmall-from : (s : JobShop) (steps jobs machines : List ℕ) (m j n : ℕ) → IsJobShop s → AreUpTo max_total jobs → AreUpTo max_total machines → ((i : ℕ) → row_time (row_at s.rows i) ≤ max_total)
     → IsSmall (rows_time (drop j s.rows)) (all_joined (each_from (load_at s steps jobs machines m) j n))
 IsSmall-from s steps jobs machines m j zero shop ready within each = tt
 IsSmall-from s steps jobs machines m j (suc n) shop ready within each =
@@ -78,7 +78,7 @@ IsSmall-from s steps jobs machines m j (suc n) shop ready within each =
     (IsSmall-joined (row_time left) (rows_time (drop (j + 1) s.rows)) (load_at s steps jobs machines m j) (all_joined (each_from (load_at s steps jobs machines m) (j + 1) n)) first rest)
 
 -- the bound that the program takes is that of the load
-pub machine_bound-with_load : (limit : ℕ) (a : Load) → IsSmall limit a → limit ≤ total_limit → machine_bound_of (with_load unloaded a) ≡ machine_bound a
+pub machine_bound-with_load : (limit : ℕ) (a : Load) → IsSmall limit a → limit ≤ max_total → machine_bound_of (with_load unloaded a) ≡ machine_bound a
 machine_bound-with_load limit Idle small le = refl
 machine_bound-with_load limit (Busy head time tail) small le =
     let low : min 4294967295 head ≡ head = omega (arith, small.0) in
@@ -88,7 +88,7 @@ machine_bound-with_load limit (Busy head time tail) small le =
       | inr is ↦ rw (low, short, is.0) (omega arith)
     ]
 
-pub machine_bound-small : (limit : ℕ) (a : Load) → IsSmall limit a → limit ≤ total_limit → machine_bound a < 4294967296
+pub machine_bound-small : (limit : ℕ) (a : Load) → IsSmall limit a → limit ≤ max_total → machine_bound a < 4294967296
 machine_bound-small limit Idle small le = omega arith
 machine_bound-small limit (Busy head time tail) small le = omega (arith, small.0, small.1, small.2, le)
 
@@ -182,7 +182,7 @@ get_or-machine_bounds (l ∷ ls) zero d e lt = refl
 get_or-machine_bounds (l ∷ ls) (suc i) d e lt = get_or-machine_bounds ls i d e (omega arith)
 
 -- The bounds of the loads that the program comes to are the bounds of the machines.
-machine_bounds_from : (loads : List MachineLoad) (f : ℕ → Load) (i n limit : ℕ) → length loads ≡ n → limit ≤ total_limit → ((m : ℕ) → IsSmall limit (f m)) → ((k : ℕ) → k < n → load_in loads k ≡ with_load unloaded (f (i + k)))
+machine_bounds_from : (loads : List MachineLoad) (f : ℕ → Load) (i n limit : ℕ) → length loads ≡ n → limit ≤ max_total → ((m : ℕ) → IsSmall limit (f m)) → ((k : ℕ) → k < n → load_in loads k ≡ with_load unloaded (f (i + k)))
     → map machine_bound_of loads ≡ each_from (λ m. machine_bound (f m)) i n
 machine_bounds_from [] f i zero limit size le small each = refl
 machine_bounds_from [] f i (suc n) limit size le small each = absurd (omega arith)

@@ -4,7 +4,7 @@ use Rattle.std.specs.Prelude.{max}
 use Rattle.std.specs.Global.{Vec}
 use Rattle.std.proofs.lemmas.Bool.{cases_lt}
 use Rattle.std.proofs.lemmas.List.{take_more, map-set}
-use Rattle.inst_text.specs.Limits.{total_limit}
+use Rattle.inst_text.specs.Limits.{max_total}
 use Rattle.bb_problem.specs.Tree.{below}
 use Rattle.inst_text.specs.declared.shop.Operation.{Operation}
 use Rattle.inst_text.specs.Shop.{JobShop, IsJobShop, AreStarts}
@@ -37,7 +37,7 @@ dispatched-is s st j = refl
 pub reached_state : (s : JobShop) (st : State) → IsReached s st → IsState s st
 reached_state s st is = subst (IsState s) (sym is.made) (IsState-of s is.name is.ordered)
 
-pub reached_end : (s : JobShop) (st : State) (j : ℕ) → IsJobShop s → IsReached s st → IsLeft s st j → next_end s st j ≤ total_limit
+pub reached_end : (s : JobShop) (st : State) (j : ℕ) → IsJobShop s → IsReached s st → IsLeft s st j → next_end s st j ≤ max_total
 reached_end s st j shop is left =
     let here : IsLeft s (state_of s is.name) j = subst (λ x. IsLeft s x j) is.made left in
     omega (arith, ap (λ x. next_end s x j) is.made, (ready_within s is.name shop is.ordered).next j here)

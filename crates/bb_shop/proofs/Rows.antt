@@ -2,7 +2,7 @@
 use Rattle.std.proofs.Common.{◌≡◌, ℕ, zero, suc, ◌+◌, ◌<◌, ◌≤◌, max, List, [], ◌∷◌, refl, ap, ◌∙◌, sym, length, map, drop, get_or, min, arith}
 use Rattle.std.specs.List.{AllByRecursion}
 use Rattle.std.proofs.lemmas.List.{drop_more, get_or-map, length-map}
-use Rattle.inst_text.specs.Limits.{total_limit}
+use Rattle.inst_text.specs.Limits.{max_total}
 use Rattle.inst_text.specs.declared.shop.Operation.{Operation}
 use Rattle.inst_text.specs.Shop.{JobShop, IsJobShop, AreStarts}
 use Rattle.bb_shop.specs.Plans.{step_at, row_at, row_end, rows_end, AreShaped}
@@ -19,13 +19,13 @@ pub length-rows : {V A : Type 0} (vs : List V) (items : V → List A) (rows : Li
 length-rows vs items rows are = sym (length-map vs items) ∙ ap length are
 
 -- a start time is within its limit
-pub start-le : (times : List ℕ) (k : ℕ) → AllByRecursion (λ (t : ℕ). t ≤ total_limit) times → get_or times k 0 ≤ total_limit
+pub start-le : (times : List ℕ) (k : ℕ) → AllByRecursion (λ (t : ℕ). t ≤ max_total) times → get_or times k 0 ≤ max_total
 start-le [] zero early = omega arith
 start-le [] (suc k) early = omega arith
 start-le (t ∷ ts) zero early = early.0
 start-le (t ∷ ts) (suc k) early = start-le ts k early.1
 
-pub starts-early : (starts : List (List ℕ)) (j : ℕ) → AreStarts starts → AllByRecursion (λ (t : ℕ). t ≤ total_limit) (times_at starts j)
+pub starts-early : (starts : List (List ℕ)) (j : ℕ) → AreStarts starts → AllByRecursion (λ (t : ℕ). t ≤ max_total) (times_at starts j)
 starts-early [] zero early = tt
 starts-early [] (suc j) early = tt
 starts-early (r ∷ rs) zero early = early.0

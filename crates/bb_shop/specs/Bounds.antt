@@ -40,7 +40,8 @@ load_of m o head tail = if nat_eq o.machine m then Busy head o.time tail else Id
 unfoldable pub job_load : List ℕ → ℕ → ℕ → List Operation → Load
 job_load machines m ready [] = Idle
 job_load machines m ready (o ∷ os) =
-    joined (load_of m o (head_of machines ready o) (row_time os)) (job_load machines m (head_of machines ready o + o.time) os)
+    joined (load_of m o (head_of machines ready o) (row_time os))
+    (job_load machines m (head_of machines ready o + o.time) os)
 
 -- the bound of a machine: the least head, the sum of the times and the least tail
 abbrev pub machine_bound : Load → ℕ
@@ -67,7 +68,8 @@ all_joined (l ∷ ls) = joined l (all_joined ls)
 
 -- what all operations that are left ask of machine m
 abbrev pub load : JobShop → State → ℕ → Load
-load s st m = all_joined (each_from (λ j. job_load st.machines m (number_in st.jobs j) (rest_of s st j)) 0 (length s.rows))
+load s st m =
+    all_joined (each_from (λ j. job_load st.machines m (number_in st.jobs j) (rest_of s st j)) 0 (length s.rows))
 
 -- the bounds of the machines that have operations left; of the others, 0
 abbrev pub machine_bounds : JobShop → State → List ℕ

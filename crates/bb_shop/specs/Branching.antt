@@ -1,5 +1,6 @@
 -- The tree of dispatch orders: a node's name is the list of the jobs dispatched so far.
-use Rattle.std.specs.Prelude.{ℕ, zero, suc, ◌≡◌, ◌+◌, ◌≤◌, ◌^◌, nat_le, nat_lt, if◌then◌else◌, List, [], ◌∷◌, ◌++◌, length, map, min}
+use Rattle.std.specs.Prelude.{ℕ, zero, suc, ◌≡◌, ◌+◌, ◌≤◌, ◌^◌, nat_le, nat_lt, if◌then◌else◌, List, [], ◌∷◌, ◌++◌}
+use Rattle.std.specs.Prelude.{length, map, min}
 use Rattle.inst_text.specs.Shop.{JobShop, operations}
 use Rattle.bb_problem.specs.Tree.{Tree, below}
 use Rattle.bb_problem.specs.Meaning.{Meaning}

@@ -1,8 +1,9 @@
 -- What a verdict is found by: searches for the first operation that starts too early, and for the first two that
 -- overlap.
-use Rattle.std.specs.Prelude.{ℕ, ◌≡◌, ◌+◌, ◌-◌, ◌≤◌, ◌<◌, List, [], length, slice_index, slice_index_or, Option, Some, None}
+use Rattle.std.specs.Prelude.{ℕ, ◌≡◌, ◌+◌, ◌-◌, ◌≤◌, ◌<◌, List, [], length, slice_index, slice_index_or, Option, Some}
+use Rattle.std.specs.Prelude.{None}
 use Rattle.std.specs.List.{AllByRecursion}
-use Rattle.inst_text.specs.Limits.{total_limit}
+use Rattle.inst_text.specs.Limits.{max_total}
 use Rattle.inst_text.specs.declared.shop.Operation.{Operation}
 use Rattle.inst_text.specs.Shop.{JobShop, row_time}
 use Rattle.bb_shop.specs.declared.booking.Booking.{Booking}
@@ -35,8 +36,8 @@ times_at starts j = slice_index_or starts j []
 -- a row of operations with a start time for each, within the limits
 pub record AreTimed (row : List Operation) (times : List ℕ) : Type 0 where
   pub count : length times ≡ length row
-  pub limited : row_time row ≤ total_limit
-  pub early : AllByRecursion (λ (t : ℕ). t ≤ total_limit) times
+  pub limited : row_time row ≤ max_total
+  pub early : AllByRecursion (λ (t : ℕ). t ≤ max_total) times
 
 -- the operation of the row at step k starts before the end of the one before it
 pub record IsEarlyIn (row : List Operation) (times : List ℕ) (k : ℕ) : Type 0 where

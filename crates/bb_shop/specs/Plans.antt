@@ -50,7 +50,8 @@ AreInOrder s starts = (j k : ℕ) → IsOperation s j (k + 1) → end_at s start
 
 -- of two operations of one machine one ends no later than the other starts
 abbrev pub AreApart : JobShop → List (List ℕ) → Type 0
-AreApart s starts = (i h j k : ℕ) → ArePair s i h j k → (end_at s starts i h ≤ start_at starts j k) ⊎ (end_at s starts j k ≤ start_at starts i h)
+AreApart s starts = (i h j k : ℕ) → ArePair s i h j k
+    → (end_at s starts i h ≤ start_at starts j k) ⊎ (end_at s starts j k ≤ start_at starts i h)
 
 -- start times that can be kept
 pub record IsFeasible (s : JobShop) (starts : List (List ℕ)) : Type 0 where

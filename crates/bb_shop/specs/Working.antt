@@ -1,8 +1,9 @@
 -- What the program makes of a node: from each job's next step, and from the ready times of jobs and machines.
-use Rattle.std.specs.Prelude.{ℕ, ◌≡◌, ◌+◌, ◌-◌, ◌≤◌, ◌<◌, List, [], ◌∷◌, ◌++◌, length, take, drop, max, min, set, replicate, map}
+use Rattle.std.specs.Prelude.{ℕ, ◌≡◌, ◌+◌, ◌-◌, ◌≤◌, ◌<◌, List, [], ◌∷◌, ◌++◌, length, take, drop, max, min, set}
+use Rattle.std.specs.Prelude.{replicate, map}
 use Rattle.inst_text.specs.declared.shop.Operation.{Operation}
 use Rattle.inst_text.specs.Shop.{JobShop}
-use Rattle.inst_text.specs.Limits.{total_limit}
+use Rattle.inst_text.specs.Limits.{max_total}
 use Rattle.bb_shop.specs.Plans.{row_at, operation_at}
 use Rattle.bb_shop.specs.Dispatching.{State, number_in, starts_of, state_of, IsOrder}
 use Rattle.bb_shop.specs.Bounds.{Load, finish, job_load, machine_bound, greatest, all_joined, each_from}
@@ -19,8 +20,8 @@ pub record FitTo (s : JobShop) (steps jobs machines : List ℕ) : Type 0 where
   pub each_step : length steps ≡ length s.rows
   pub each_job : length jobs ≡ length s.rows
   pub each_machine : length machines ≡ s.machines
-  pub jobs_ready : AreUpTo total_limit jobs
-  pub machines_ready : AreUpTo total_limit machines
+  pub jobs_ready : AreUpTo max_total jobs
+  pub machines_ready : AreUpTo max_total machines
 
 -- the operations of job j that are left
 abbrev pub left_of : JobShop → List ℕ → ℕ → List Operation
@@ -42,7 +43,8 @@ whole_load s steps jobs machines m = all_joined (each_from (load_at s steps jobs
 unfoldable pub bound_by : JobShop → List ℕ → List ℕ → List ℕ → ℕ
 bound_by s steps jobs machines =
     max (greatest (each_from (finish_at s steps jobs machines) 0 (length s.rows)))
-    (max (greatest machines) (greatest (each_from (λ m. machine_bound (whole_load s steps jobs machines m)) 0 s.machines)))
+    (max (greatest machines)
+    (greatest (each_from (λ m. machine_bound (whole_load s steps jobs machines m)) 0 s.machines)))
 
 -- rows of so many start times, one for each job
 abbrev pub rows_of : List ℕ → List (List ℕ)
@@ -58,11 +60,12 @@ coming s node j = operation_at s j (number_in node.steps j)
 
 -- when it needs its machine: once the job and the machine are ready
 abbrev pub next_at : JobShop → Node → ℕ → Booking
-next_at s node j = booked (coming s node j) (max (number_in node.jobs j) (number_in node.machines (coming s node j).machine))
+next_at s node j =
+    booked (coming s node j) (max (number_in node.jobs j) (number_in node.machines (coming s node j).machine))
 
 -- when it ends, or the limit of all times where that is less
 abbrev pub ending : Node → Operation → ℕ → ℕ
-ending node o j = min (max (number_in node.jobs j) (number_in node.machines o.machine) + o.time) total_limit
+ending node o j = min (max (number_in node.jobs j) (number_in node.machines o.machine) + o.time) max_total
 
 -- the child that dispatches this operation of job j
 abbrev pub child_by : Node → Operation → ℕ → Node
@@ -90,7 +93,7 @@ part from to xs = take (to - from) (drop from xs)
 -- steps, and the order
 pub record IsKept (jobs machines : ℕ) (numbers : List ℕ) : Type 0 where
   pub long : jobs + machines + jobs ≤ length numbers
-  pub within : (k : ℕ) → k < jobs + machines → number_in numbers k ≤ total_limit
+  pub within : (k : ℕ) → k < jobs + machines → number_in numbers k ≤ max_total
 
 -- the schedule with this operation of job j dispatched
 abbrev pub dispatched_by : State → Operation → ℕ → State

@@ -1,6 +1,6 @@
 //! When an operation with a start time needs its machine.
 ghost use Rattle.std.specs.Prelude.{◌≡◌, ◌≤◌, ◌↔◌, IsTrue};
-ghost use Rattle.inst_text.specs.Limits.{total_limit};
+ghost use Rattle.inst_text.specs.Limits.{max_total};
 ghost use Rattle.bb_shop.specs.Judging.{booked, Collide};
 
 use inst_text::Operation;
@@ -17,8 +17,8 @@ pub struct Booking {
 impl Booking {
     /// What the operation needs if it starts at this time. Constant time.
     pub fn new(operation: Operation, start: u32) -> Booking
-        requires time { operation.time ≤ total_limit }
-        requires start { start ≤ total_limit }
+        requires time { operation.time ≤ max_total }
+        requires start { start ≤ max_total }
         ensures { result ≡ booked operation start }
     {
         Booking {

@@ -1,6 +1,6 @@
 //! The children of a node, and the plan of a node that has none.
 ghost use Rattle.std.specs.Prelude.{ℕ, List, ◌≡◌, ◌↔◌, ◌≤◌, ◌<◌, ◌^◌, length, map, All, IsTrue, IfOk};
-ghost use Rattle.inst_text.specs.Limits.{job_limit};
+ghost use Rattle.inst_text.specs.Limits.{max_jobs};
 ghost use Rattle.inst_text.specs.Shop.{IsJobShop};
 ghost use Rattle.bb_problem.specs.Expanding.{StandBelow};
 ghost use Rattle.bb_shop.specs.Plans.{makespan};
@@ -13,18 +13,18 @@ use crate::node::ShopNode;
 use crate::planning::plan;
 use crate::shop::Shop;
 use arrayvec::ArrayVec;
-use inst_text::{JOB_LIMIT, Starts};
+use inst_text::{MAX_JOBS, Starts};
 use pq_io::NoMemory;
 use std::alloc::Global;
 
-const MOST_JOBS: usize = JOB_LIMIT as usize;
+const MOST_JOBS: usize = MAX_JOBS as usize;
 
 /// Some jobs of a shop. It takes no memory.
 pub type SomeJobs = ArrayVec<u8, { MOST_JOBS }>;
 
 /// The jobs that have fewer steps done than there are machines, in order. One pass.
 fn left(steps: &[u32], machines: usize) -> SomeJobs
-    requires { length steps.now ≤ job_limit }
+    requires { length steps.now ≤ max_jobs }
     ensures { result.items ≡ left_in machines steps.now }
 {
     let mut jobs = SomeJobs::new();

@@ -3,7 +3,8 @@ ghost use Rattle.std.specs.Prelude.{◌≡◌, ◌≤◌, ◌<◌, length};
 ghost use Rattle.inst_text.specs.Shop.{IsJobShop, AreStarts};
 ghost use Rattle.bb_shop.specs.Plans.{row_at, IsOperation, AreShaped};
 ghost use Rattle.bb_shop.specs.Verdicts.{Overlap, IsVerdict};
-ghost use Rattle.bb_shop.specs.Judging.{Finds, FindsOperation, FindsPair, times_at, AreTimed, IsEarlyIn, IsEarlyAt, OverlapsIn, OverlapsFrom};
+ghost use Rattle.bb_shop.specs.Judging.{Finds, FindsOperation, FindsPair, times_at, AreTimed, IsEarlyIn, IsEarlyAt};
+ghost use Rattle.bb_shop.specs.Judging.{OverlapsIn, OverlapsFrom};
 
 use crate::booking::Booking;
 use crate::makespan::makespan_of;
@@ -147,6 +148,3 @@ fn first_overlap(jobs: &Jobs, starts: &Starts) -> Option<Pair>
     }
     None
 }
-
-#[cfg(test)]
-mod tests;

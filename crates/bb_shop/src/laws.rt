@@ -1,6 +1,6 @@
 //! What is proved of the definitions.
 ghost use Rattle.std.specs.Prelude.{ℕ, List, [], ◌∷◌, ◌≡◌, ◌≤◌};
-ghost use Rattle.inst_text.specs.Limits.{total_limit};
+ghost use Rattle.inst_text.specs.Limits.{max_total};
 ghost use Rattle.inst_text.specs.Shop.{JobShop, IsJobShop, AreStarts};
 ghost use Rattle.bb_shop.specs.declared.verdict.ShopVerdict.{ShopVerdict};
 ghost use Rattle.bb_shop.specs.Plans.{IsOperation, AreShaped, end_at, makespan, IsFeasible, IsCheapest};
@@ -24,7 +24,7 @@ pub fn bounds_are_below()
 /// Law: no node's bound exceeds what the times of a job shop can add up to.
 #[tactic(auto, using(crate::specs::TreeLawsHold::Bounded::bound_within))]
 pub fn bounds_are_within()
-    ensures { (s : JobShop) (name : List ℕ) → IsJobShop s → IsOrder s name → bound_of s name ≤ total_limit }
+    ensures { (s : JobShop) (name : List ℕ) → IsJobShop s → IsOrder s name → bound_of s name ≤ max_total }
 {}
 
 /// Law: the makespan is the greatest end: no operation ends after it, and some operation ends at it.
@@ -46,7 +46,8 @@ pub fn one_verdict()
 /// Law: no feasible schedule ends before the bound of the root.
 #[tactic(auto, using(crate::proofs::Ends::root_bound_below))]
 pub fn root_bound_is_bound()
-    ensures { (s : JobShop) (starts : List (List ℕ)) → IsJobShop s → IsFeasible s starts → root_bound s ≤ makespan s starts }
+    ensures { (s : JobShop) (starts : List (List ℕ)) →
+        IsJobShop s → IsFeasible s starts → root_bound s ≤ makespan s starts }
 {}
 
 /// Law: each start of a best schedule is within the limit of start times.
@@ -63,6 +64,7 @@ pub fn worked_shops()
     ensures machine_bounds { machine_bounds ft06 (state_of ft06 []) ≡ 42 ∷ 33 ∷ 26 ∷ 25 ∷ 52 ∷ 49 ∷ [] }
     ensures bound { root_bound ft06 ≡ 52 }
     ensures children { children_of three_by_three (1 ∷ 1 ∷ 1 ∷ 0 ∷ []) ≡ 0 ∷ 2 ∷ [] }
-    ensures starts { (state_of three_by_three (1 ∷ 2 ∷ 0 ∷ 1 ∷ 0 ∷ 1 ∷ 2 ∷ 0 ∷ 2 ∷ [])).starts ≡ (2 ∷ 5 ∷ 7 ∷ []) ∷ (0 ∷ 2 ∷ 7 ∷ []) ∷ (0 ∷ 4 ∷ 7 ∷ []) ∷ [] }
+    ensures starts { (state_of three_by_three (1 ∷ 2 ∷ 0 ∷ 1 ∷ 0 ∷ 1 ∷ 2 ∷ 0 ∷ 2 ∷ [])).starts ≡
+        (2 ∷ 5 ∷ 7 ∷ []) ∷ (0 ∷ 2 ∷ 7 ∷ []) ∷ (0 ∷ 4 ∷ 7 ∷ []) ∷ [] }
     ensures makespan { makespan three_by_three ((2 ∷ 5 ∷ 7 ∷ []) ∷ (0 ∷ 2 ∷ 7 ∷ []) ∷ (0 ∷ 4 ∷ 7 ∷ []) ∷ []) ≡ 11 }
 {}

@@ -1,7 +1,7 @@
 //! What start times cost.
 ghost use Rattle.std.specs.Prelude.{ℕ, ◌≡◌, ◌≤◌};
 ghost use Rattle.std.specs.List.{AllByRecursion};
-ghost use Rattle.inst_text.specs.Limits.{total_limit};
+ghost use Rattle.inst_text.specs.Limits.{max_total};
 ghost use Rattle.inst_text.specs.Shop.{row_time};
 ghost use Rattle.bb_shop.specs.Plans.{row_end, makespan};
 
@@ -9,8 +9,8 @@ use inst_text::{Jobs, Operation, Starts};
 
 /// The greatest end of operations that start at these times, and 0 of none. One pass.
 fn row_end(row: &[Operation], times: &[u32]) -> u32
-    requires times { row_time row.now ≤ total_limit }
-    requires starts { AllByRecursion (λ (t : ℕ). t ≤ total_limit) times.now }
+    requires times { row_time row.now ≤ max_total }
+    requires starts { AllByRecursion (λ (t : ℕ). t ≤ max_total) times.now }
     ensures { result ≡ row_end row.now times.now }
 {
     let mut end = 0;

@@ -1,9 +1,9 @@
 //! A node of the search, and what dispatching an operation makes of it.
 ghost use Rattle.std.specs.Prelude.{◌≡◌, ◌+◌, ◌≤◌, ◌<◌, [], length, replicate, slice_index, IfOk};
-ghost use Rattle.inst_text.specs.Limits.{job_limit, machine_limit, total_limit};
+ghost use Rattle.inst_text.specs.Limits.{max_jobs, max_machines, max_total};
 ghost use Rattle.bb_shop.specs.Working.{AreUpTo, child_by};
 
-use inst_text::{JOB_LIMIT, MACHINE_LIMIT, Operation, TOTAL_LIMIT};
+use inst_text::{MAX_JOBS, MAX_MACHINES, MAX_TOTAL, Operation};
 use pq_io::NoMemory;
 use std::alloc::Global;
 use std::marker::Model;
@@ -41,8 +41,8 @@ impl Model for ShopNode {
 impl ShopNode {
     /// The node that dispatches nothing yet. O(n) in the number of jobs and machines.
     pub(crate) fn root(alloc: Global, jobs: usize, machines: usize) -> Result<ShopNode, NoMemory>
-        requires jobs { jobs ≤ job_limit }
-        requires machines { machines ≤ machine_limit }
+        requires jobs { jobs ≤ max_jobs }
+        requires machines { machines ≤ max_machines }
         ensures { IfOk result (λ node. node ≡ record {
           order = [];
           steps = replicate jobs 0;
@@ -50,7 +50,7 @@ impl ShopNode {
           machines = replicate machines 0;
         }) }
     {
-        let none = [0u32; (2 * JOB_LIMIT + MACHINE_LIMIT) as usize];
+        let none = [0u32; (2 * MAX_JOBS + MAX_MACHINES) as usize];
         Ok(ShopNode {
             job_count: jobs as u32,
             machine_count: machines as u32,
@@ -61,7 +61,7 @@ impl ShopNode {
     /// When each job is ready. Constant time.
     pub fn jobs(&self) -> &[u32]
         ensures jobs { result.now ≡ self.now.jobs }
-        ensures within { AreUpTo total_limit self.now.jobs }
+        ensures within { AreUpTo max_total self.now.jobs }
     {
         &self.numbers[..self.job_count as usize]
     }
@@ -69,7 +69,7 @@ impl ShopNode {
     /// When each machine is ready. Constant time.
     pub fn machines(&self) -> &[u32]
         ensures machines { result.now ≡ self.now.machines }
-        ensures within { AreUpTo total_limit self.now.machines }
+        ensures within { AreUpTo max_total self.now.machines }
     {
         let first = self.job_count as usize;
         &self.numbers[first..first + self.machine_count as usize]
@@ -98,9 +98,9 @@ impl ShopNode {
         operation: Operation,
         job: usize,
     ) -> Result<ShopNode, NoMemory>
-        requires few { length self.now.steps ≤ job_limit }
+        requires few { length self.now.steps ≤ max_jobs }
         requires job { job < length self.now.steps }
-        requires step { slice_index self.now.steps job < machine_limit }
+        requires step { slice_index self.now.steps job < max_machines }
         requires machine { operation.machine < length self.now.machines }
         ensures { IfOk result (λ child. child ≡ child_by self.now operation job) }
     {
@@ -109,7 +109,7 @@ impl ShopNode {
         let mut numbers = Vec::with_capacity(alloc, self.numbers.len() + 1)?;
         numbers.extend_from_slice(self.numbers.as_slice())?;
         let start = numbers[job].max(numbers[machine]);
-        let end = start.saturating_add(operation.time).min(TOTAL_LIMIT);
+        let end = start.saturating_add(operation.time).min(MAX_TOTAL);
         numbers[job] = end;
         numbers[machine] = end;
         numbers[ready + job] += 1;

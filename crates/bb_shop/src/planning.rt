@@ -5,7 +5,7 @@ ghost use Rattle.bb_shop.specs.Dispatching.{State, opened, number_in, step_of, d
 ghost use Rattle.bb_shop.specs.Working.{dispatched_by, IsReached, IsPlanOf};
 
 use crate::shop::Shop;
-use inst_text::{JOB_LIMIT, MACHINE_LIMIT, Operation, Starts};
+use inst_text::{MAX_JOBS, MAX_MACHINES, Operation, Starts};
 use pq_io::NoMemory;
 use std::alloc::Global;
 use std::marker::Model;
@@ -38,7 +38,7 @@ impl Schedule {
         ensures opened { IfOk result (λ st. st ≡ opened shop.now) }
         ensures within_limits { IsJobShop shop.now }
     {
-        let at_once = [0u32; (JOB_LIMIT + MACHINE_LIMIT) as usize];
+        let at_once = [0u32; (MAX_JOBS + MAX_MACHINES) as usize];
         let mut starts = Vec::new(alloc);
         for _job in 0..shop.job_count() {
             starts.push(Vec::new(alloc))?;

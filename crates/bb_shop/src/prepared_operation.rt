@@ -1,6 +1,6 @@
 //! The table of a shop's operations that bounds are taken from.
 ghost use Rattle.std.specs.Prelude.{◌≡◌, ◌≤◌, ◌++◌, map, IfOk, OnOk};
-ghost use Rattle.inst_text.specs.Limits.{total_limit};
+ghost use Rattle.inst_text.specs.Limits.{max_total};
 ghost use Rattle.inst_text.specs.Shop.{row_time, rows_time};
 ghost use Rattle.bb_shop.specs.Tables.{prepared_row, prepared_rows};
 
@@ -19,7 +19,7 @@ pub struct PreparedOperation {
 
 /// The sum of the times of a job. One pass.
 fn time_of(row: &[Operation]) -> u32
-    requires { row_time row.now ≤ total_limit }
+    requires { row_time row.now ≤ max_total }
     ensures { result ≡ row_time row.now }
 {
     let mut time = 0;
@@ -31,7 +31,7 @@ fn time_of(row: &[Operation]) -> u32
 
 /// Adds the operations of a job to the table. One pass.
 fn add_row(table: &mut Vec<PreparedOperation>, row: &[Operation]) -> Result<(), NoMemory>
-    requires { row_time row.now ≤ total_limit }
+    requires { row_time row.now ≤ max_total }
     ensures { OnOk result (table.new.items ≡ table.old.items ++ prepared_row row.now) }
 {
     let mut tail = time_of(row);
@@ -50,7 +50,7 @@ pub fn operation_table(
     alloc: Global,
     rows: &[Vec<Operation>],
 ) -> Result<Vec<PreparedOperation>, NoMemory>
-    requires { rows_time (map (λ row. row.items) rows.now) ≤ total_limit }
+    requires { rows_time (map (λ row. row.items) rows.now) ≤ max_total }
     ensures { IfOk result (λ table. table.items ≡ prepared_rows (map (λ row. row.items) rows.now)) }
 {
     let mut table = Vec::new(alloc);

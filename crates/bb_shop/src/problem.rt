@@ -11,7 +11,7 @@ use crate::makespan::makespan_of;
 use crate::node::ShopNode;
 use crate::shop::Shop;
 use bb_problem::{Problem, Step};
-use inst_text::{Starts, TOTAL_LIMIT};
+use inst_text::{MAX_TOTAL, Starts};
 use pq_io::NoMemory;
 use std::alloc::Global;
 
@@ -39,7 +39,7 @@ impl Problem for Shop {
             return 0;
         }
         self.bound_by(node.steps(), node.jobs(), node.machines())
-            .min(TOTAL_LIMIT)
+            .min(MAX_TOTAL)
     }
 
     /// The plan of a node that dispatches all operations, else a child for each job that has operations left.

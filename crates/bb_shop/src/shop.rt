@@ -10,7 +10,7 @@ use crate::judging::judged;
 use crate::makespan::makespan_of;
 use crate::prepared_operation::{PreparedOperation, operation_table};
 use crate::verdict::ShopVerdict;
-use inst_text::{JOB_LIMIT, Jobs, MACHINE_LIMIT, Operation, Starts};
+use inst_text::{Jobs, MAX_JOBS, MAX_MACHINES, Operation, Starts};
 use pq_io::NoMemory;
 use std::alloc::Global;
 use std::marker::Model;
@@ -70,7 +70,7 @@ impl Shop {
         jobs.machines as usize
     }
 
-    /// The least makespan that the bound of the root allows, at most `TOTAL_LIMIT`: the greatest, over the jobs, of the
+    /// The least makespan that the bound of the root allows, at most `MAX_TOTAL`: the greatest, over the jobs, of the
     /// sum of their times, and over the machines, of the least head, the sum of the times and the least tail of their
     /// operations (J. Carlier and E. Pinson, An algorithm for solving the job-shop problem, 1989). It takes no memory.
     /// O(n) in the number of operations.
@@ -79,7 +79,7 @@ impl Shop {
     {
         let jobs = self.job_count();
         let machines = self.machine_count();
-        let none = [0u32; (JOB_LIMIT + MACHINE_LIMIT) as usize];
+        let none = [0u32; (MAX_JOBS + MAX_MACHINES) as usize];
         self.bound_by(&none[..jobs], &none[..jobs], &none[..machines])
     }
 

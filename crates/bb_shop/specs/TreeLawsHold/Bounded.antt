@@ -5,7 +5,7 @@ use Rattle.std.specs.Prelude.{max}
 use Rattle.std.proofs.lemmas.Bool.{cases_eq}
 use Rattle.std.proofs.lemmas.List.{drop_more, drop_all}
 use Rattle.std.proofs.lemmas.List.Elements.{All-from_recursion}
-use Rattle.inst_text.specs.Limits.{total_limit}
+use Rattle.inst_text.specs.Limits.{max_total}
 use Rattle.inst_text.specs.Shop.{JobShop, IsJobShop, operations, row_time, rows_time}
 use Rattle.bb_shop.specs.Plans.{row_at, makespan, AreShaped}
 use Rattle.bb_shop.specs.Dispatching.{State, opened, number_in, step_of, next_of, next_start, next_end, dispatched, state_from, state_of, IsLeft, AreLeft, IsOrder}
@@ -173,5 +173,5 @@ bound_in_time s name shop order =
     let g = goes_on s name shop order in
     omega (arith, bound-le-cost s name g.0 shop g.1 g.2, whole_within s (name ++ g.0) shop g.1 g.2)
 
-pub bound_within : (s : JobShop) (name : List ℕ) → IsJobShop s → IsOrder s name → bound_of s name ≤ total_limit
+pub bound_within : (s : JobShop) (name : List ℕ) → IsJobShop s → IsOrder s name → bound_of s name ≤ max_total
 bound_within s name shop order = omega (arith, bound_in_time s name shop order, shop.times)

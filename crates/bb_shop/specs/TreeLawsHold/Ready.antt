@@ -5,7 +5,7 @@ use Rattle.std.specs.List.{AllByRecursion}
 use Rattle.std.proofs.lemmas.Bool.{cases_eq}
 use Rattle.std.proofs.lemmas.List.{length_push}
 use Rattle.std.proofs.lemmas.List.Elements.{recursion_from_All, All-from_get_or}
-use Rattle.inst_text.specs.Limits.{total_limit}
+use Rattle.inst_text.specs.Limits.{max_total}
 use Rattle.inst_text.specs.declared.shop.Operation.{Operation}
 use Rattle.inst_text.specs.Shop.{JobShop, row_time, rows_time, operations, IsJobShop, AreStarts}
 use Rattle.bb_shop.specs.Plans.{step_at, row_at, start_at, end_at, row_end, rows_end}
@@ -127,14 +127,14 @@ rows_starts limit (row ∷ rows) each =
 
 pub starts-within : (s : JobShop) (name : List ℕ) → IsJobShop s → IsOrder s name → AreStarts (state_of s name).starts
 starts-within s name shop order =
-    rows_starts total_limit (state_of s name).starts (λ j k row step. omega (arith, end-within s name j k shop order step, shop.times))
+    rows_starts max_total (state_of s name).starts (λ j k row step. omega (arith, end-within s name j k shop order step, shop.times))
 
 -- what the ready times of an order are within, and when a job that is left ends next
 pub record AreWithin (s : JobShop) (name : List ℕ) : Type 0 where
-  pub jobs : All (λ t. t ≤ total_limit) (state_of s name).jobs
-  pub machines : All (λ t. t ≤ total_limit) (state_of s name).machines
+  pub jobs : All (λ t. t ≤ max_total) (state_of s name).jobs
+  pub machines : All (λ t. t ≤ max_total) (state_of s name).machines
   pub starts : AreStarts (state_of s name).starts
-  pub next : (j : ℕ) → IsLeft s (state_of s name) j → next_end s (state_of s name) j ≤ total_limit
+  pub next : (j : ℕ) → IsLeft s (state_of s name) j → next_end s (state_of s name) j ≤ max_total
 
 pub ready_within : (s : JobShop) (name : List ℕ) → IsJobShop s → IsOrder s name → AreWithin s name
 ready_within s name shop order =
@@ -142,8 +142,8 @@ ready_within s name shop order =
     let is = IsTimely-of s name shop order in
     let limit = worked-le s.rows st.starts in
     record {
-      jobs = All-from_get_or (λ t. t ≤ total_limit) st.jobs 0 (λ j lt. omega (arith, is.jobs j, limit, shop.times));
-      machines = All-from_get_or (λ t. t ≤ total_limit) st.machines 0 (λ m lt. omega (arith, is.machines m, limit, shop.times));
+      jobs = All-from_get_or (λ t. t ≤ max_total) st.jobs 0 (λ j lt. omega (arith, is.jobs j, limit, shop.times));
+      machines = All-from_get_or (λ t. t ≤ max_total) st.machines 0 (λ m lt. omega (arith, is.machines m, limit, shop.times));
       starts = starts-within s name shop order;
       next = λ j left. omega (arith, next_end-within s name j shop order left, shop.times);
     }

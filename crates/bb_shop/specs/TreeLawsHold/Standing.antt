@@ -7,7 +7,7 @@ use Rattle.std.proofs.lemmas.List.Elements.{All-head, All-tail, All-get_or}
 use Rattle.bb_problem.specs.Tree.{below}
 use Rattle.bb_problem.specs.Expanding.{StandBelow}
 use Rattle.inst_text.specs.declared.shop.Operation.{Operation}
-use Rattle.inst_text.specs.Limits.{job_limit, machine_limit}
+use Rattle.inst_text.specs.Limits.{max_jobs, max_machines}
 use Rattle.inst_text.specs.Shop.{JobShop, IsJobShop, operations}
 use Rattle.bb_shop.specs.Plans.{row_at, operation_at, makespan, IsFeasible}
 use Rattle.bb_shop.specs.Dispatching.{State, number_in, starts_of, step_of, next_of, next_start, next_end, state_of, IsLeft, IsOrder}
@@ -64,10 +64,10 @@ map-replicate : (n : ℕ) → map length (replicate {A = List ℕ} n []) ≡ rep
 map-replicate zero = refl
 map-replicate (suc n) = ap (λ xs. 0 ∷ xs) (map-replicate n)
 
-pub root_fits : (s : JobShop) (n m : ℕ) → IsJobShop s → n ≡ length s.rows → m ≡ s.machines → FitTo s (take n (replicate {A = ℕ} (job_limit + machine_limit) 0)) (take n (replicate {A = ℕ} (job_limit + machine_limit) 0)) (take m (replicate {A = ℕ} (job_limit + machine_limit) 0))
+pub root_fits : (s : JobShop) (n m : ℕ) → IsJobShop s → n ≡ length s.rows → m ≡ s.machines → FitTo s (take n (replicate {A = ℕ} (max_jobs + max_machines) 0)) (take n (replicate {A = ℕ} (max_jobs + max_machines) 0)) (take m (replicate {A = ℕ} (max_jobs + max_machines) 0))
 root_fits s n m shop jobs machines =
-    let job_list : take n (replicate {A = ℕ} (job_limit + machine_limit) 0) ≡ replicate {A = ℕ} n 0 = take-replicate n (job_limit + machine_limit) 0 (omega (arith, jobs, shop.jobs)) in
-    let machine_list : take m (replicate {A = ℕ} (job_limit + machine_limit) 0) ≡ replicate {A = ℕ} m 0 = take-replicate m (job_limit + machine_limit) 0 (omega (arith, machines, shop.machines)) in
+    let job_list : take n (replicate {A = ℕ} (max_jobs + max_machines) 0) ≡ replicate {A = ℕ} n 0 = take-replicate n (max_jobs + max_machines) 0 (omega (arith, jobs, shop.jobs)) in
+    let machine_list : take m (replicate {A = ℕ} (max_jobs + max_machines) 0) ≡ replicate {A = ℕ} m 0 = take-replicate m (max_jobs + max_machines) 0 (omega (arith, machines, shop.machines)) in
     record {
       each_step = omega (arith, ap (λ (xs : List ℕ). length xs) job_list, length-replicate {A = ℕ} n 0, jobs);
       each_job = omega (arith, ap (λ (xs : List ℕ). length xs) job_list, length-replicate {A = ℕ} n 0, jobs);
@@ -78,21 +78,21 @@ root_fits s n m shop jobs machines =
 
 -- they are the lists of the state that dispatches nothing
 pub root_lists : (s : JobShop) (n m : ℕ) (f : List ℕ → List ℕ → List ℕ → ℕ) → IsJobShop s → n ≡ length s.rows → m ≡ s.machines
-    → f (take n (replicate {A = ℕ} (job_limit + machine_limit) 0)) (take n (replicate {A = ℕ} (job_limit + machine_limit) 0)) (take m (replicate {A = ℕ} (job_limit + machine_limit) 0))
+    → f (take n (replicate {A = ℕ} (max_jobs + max_machines) 0)) (take n (replicate {A = ℕ} (max_jobs + max_machines) 0)) (take m (replicate {A = ℕ} (max_jobs + max_machines) 0))
     ≡ f (map length (state_of s []).starts) (state_of s []).jobs (state_of s []).machines
 root_lists s n m f shop jobs machines =
-    let none = replicate {A = ℕ} (job_limit + machine_limit) 0 in
+    let none = replicate {A = ℕ} (max_jobs + max_machines) 0 in
     let count = length s.rows in
-    let job_list : take n none ≡ replicate {A = ℕ} count 0 = take-replicate n (job_limit + machine_limit) 0 (omega (arith, jobs, shop.jobs)) ∙ ap (λ k. replicate {A = ℕ} k 0) jobs in
+    let job_list : take n none ≡ replicate {A = ℕ} count 0 = take-replicate n (max_jobs + max_machines) 0 (omega (arith, jobs, shop.jobs)) ∙ ap (λ k. replicate {A = ℕ} k 0) jobs in
     let machine_list : take m none ≡ replicate {A = ℕ} s.machines 0 =
-    take-replicate m (job_limit + machine_limit) 0 (omega (arith, machines, shop.machines)) ∙ ap (λ k. replicate {A = ℕ} k 0) machines in
+    take-replicate m (max_jobs + max_machines) 0 (omega (arith, machines, shop.machines)) ∙ ap (λ k. replicate {A = ℕ} k 0) machines in
     ap (λ xs. f xs xs (take m none)) job_list
     ∙ ap (f (replicate {A = ℕ} count 0) (replicate {A = ℕ} count 0)) machine_list
     ∙ ap (λ xs. f xs (replicate {A = ℕ} count 0) (replicate {A = ℕ} s.machines 0)) (sym (map-replicate count))
     ∙ ap (λ (st : State). f (map length st.starts) st.jobs st.machines) (sym (state_of-nil s))
 
 pub root_bound-is : (s : JobShop) (n m : ℕ) → IsJobShop s → n ≡ length s.rows → m ≡ s.machines
-    → bound_by s (take n (replicate {A = ℕ} (job_limit + machine_limit) 0)) (take n (replicate {A = ℕ} (job_limit + machine_limit) 0)) (take m (replicate {A = ℕ} (job_limit + machine_limit) 0)) ≡ root_bound s
+    → bound_by s (take n (replicate {A = ℕ} (max_jobs + max_machines) 0)) (take n (replicate {A = ℕ} (max_jobs + max_machines) 0)) (take m (replicate {A = ℕ} (max_jobs + max_machines) 0)) ≡ root_bound s
 root_bound-is s n m shop jobs machines = root_lists s n m (bound_by s) shop jobs machines ∙ bound_by-is s (state_of s [])
 
 pub root_stands : (s : JobShop) (node : Node) → node ≡ record { order = []; steps = replicate (length s.rows) 0; jobs = replicate (length s.rows) 0; machines = replicate s.machines 0 } → Stands s node []
@@ -220,7 +220,7 @@ left_are_children s node name stands some =
     ]
 
 -- how many jobs are left
-pub left_count : (s : JobShop) (node : Node) → IsJobShop s → FitTo s node.steps node.jobs node.machines → length (left_in s.machines node.steps) ≤ job_limit
+pub left_count : (s : JobShop) (node : Node) → IsJobShop s → FitTo s node.steps node.jobs node.machines → length (left_in s.machines node.steps) ≤ max_jobs
 left_count s node shop fit = omega (arith, length-left_in s.machines node.steps, fit.each_step, shop.jobs)
 
 -- a plan that is made costs no more than all times

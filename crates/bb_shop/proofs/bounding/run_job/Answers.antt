@@ -1,7 +1,7 @@
 use Rattle.std.proofs.Common.{◌≡◌, ◌+◌, ◌<◌, ◌≤◌, List, length, get_or, drop, set, sym, ap, ◌∙◌, arith}
 use Rattle.std.proofs.lemmas.List.{at_drop_all, get_or_default}
 use Rattle.std.proofs.lemmas.List.Elements.{All-from_recursion}
-use Rattle.inst_text.specs.Limits.{total_limit}
+use Rattle.inst_text.specs.Limits.{max_total}
 use Rattle.inst_text.specs.Shop.{row_time}
 use Rattle.bb_shop.specs.declared.machine_load.MachineLoad.{MachineLoad}
 use Rattle.bb_shop.specs.declared.prepared_operation.PreparedOperation.{PreparedOperation}
@@ -29,8 +29,8 @@ with-requires c =
     let inside : p.operation.machine < length c.loop-prepared.loads = omega (arith, low, c.requires.places, c.loop-prepared.auto.loads) in
     let whole = c.loop-prepared.invariant.loads p.operation.machine low in
     let rest = operations_in (drop (i + 1) ops) in
-    let room : (load_in c.loop-prepared.loads p.operation.machine).time + p.operation.time ≤ total_limit =
-    time-step machines (load_in c.loop-prepared.loads p.operation.machine) c.loop-prepared.ready p.operation rest total_limit
+    let room : (load_in c.loop-prepared.loads p.operation.machine).time + p.operation.time ≤ max_total =
+    time-step machines (load_in c.loop-prepared.loads p.operation.machine) c.loop-prepared.ready p.operation rest max_total
     (omega (arith, ap (λ (l : MachineLoad). l.time) whole, ap (λ os. (with_load (load_in c.loop-prepared.loads p.operation.machine) (job_load machines p.operation.machine c.loop-prepared.ready os)).time) t.before, c.requires.times p.operation.machine low)) in
     omega (arith, room, ap (λ (l : MachineLoad). l.time) (get_or_default c.loop-prepared.loads p.operation.machine no_load unloaded inside))
 

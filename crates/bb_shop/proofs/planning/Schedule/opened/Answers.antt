@@ -1,7 +1,7 @@
 use Rattle.std.proofs.Common.{◌≡◌, ◌+◌, ℕ, List, [], length, map, replicate, ap, ◌∙◌, arith}
 use Rattle.std.specs.Global.{Vec}
 use Rattle.std.proofs.lemmas.List.{take-replicate}
-use Rattle.inst_text.specs.Limits.{job_limit, machine_limit}
+use Rattle.inst_text.specs.Limits.{max_jobs, max_machines}
 use Rattle.bb_shop.proofs.Planned.{same_state}
 use Rattle.bb_shop.proofs.planning.Schedule.opened.Goals as goal
 
@@ -13,5 +13,5 @@ returns-clause-opened c =
     let machines = c.machine_count.result in
     same_state (map (λ (row : Vec ℕ). row.items) c.loop-job.starts.items) c.in_ok-from_slice.field-0.items c.in_ok-from_slice-2.field-0.items (replicate (length s.rows) []) (replicate (length s.rows) 0) (replicate s.machines 0)
     (c.loop-job.invariant ∙ ap (λ n. replicate {A = List ℕ} n []) count)
-    (c.in_ok-from_slice.ensures.items ∙ take-replicate jobs (job_limit + machine_limit) 0 (omega (arith, c.job_count.ensures.count, c.job_count.ensures.within_limits.jobs)) ∙ ap (λ n. replicate {A = ℕ} n 0) c.job_count.ensures.count)
-    (c.in_ok-from_slice-2.ensures.items ∙ take-replicate machines (job_limit + machine_limit) 0 (omega (arith, c.machine_count.ensures.count, c.machine_count.ensures.within_limits.machines)) ∙ ap (λ n. replicate {A = ℕ} n 0) c.machine_count.ensures.count)
+    (c.in_ok-from_slice.ensures.items ∙ take-replicate jobs (max_jobs + max_machines) 0 (omega (arith, c.job_count.ensures.count, c.job_count.ensures.within_limits.jobs)) ∙ ap (λ n. replicate {A = ℕ} n 0) c.job_count.ensures.count)
+    (c.in_ok-from_slice-2.ensures.items ∙ take-replicate machines (max_jobs + max_machines) 0 (omega (arith, c.machine_count.ensures.count, c.machine_count.ensures.within_limits.machines)) ∙ ap (λ n. replicate {A = ℕ} n 0) c.machine_count.ensures.count)
