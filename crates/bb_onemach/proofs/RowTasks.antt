@@ -8,7 +8,7 @@ use Rattle.std.proofs.lemmas.Bool.Decides.{eqb_tells}
 use Rattle.std.proofs.lemmas.List.Elements.{All-filter, All-map, All-weaker}
 use Rattle.std.proofs.lemmas.List.Sorted.{All-permutation, length_permutation}
 use Rattle.inst_text.specs.declared.shop.Operation.{Operation}
-use Rattle.inst_text.specs.Limits.{operation_limit, total_limit}
+use Rattle.inst_text.specs.Limits.{max_operations, max_total}
 use Rattle.inst_text.specs.Shop.{JobShop, IsJobShop, row_time, rows_time, operations}
 use Rattle.bb_problem.specs.Tree.{total}
 use Rattle.bb_shop.specs.Plans.{row_at}
@@ -67,15 +67,15 @@ left-time p f (v ∷ vs) same =
     ]
 
 -- heads are small
-heads-small : (machines : List ℕ) (ready : ℕ) (os : List Operation) → AreUpTo total_limit machines → ready + row_time os ≤ 2 * total_limit → row_time os ≤ total_limit
-    → (k : ℕ) → number_in (heads machines ready os) k ≤ 2 * total_limit
+heads-small : (machines : List ℕ) (ready : ℕ) (os : List Operation) → AreUpTo max_total machines → ready + row_time os ≤ 2 * max_total → row_time os ≤ max_total
+    → (k : ℕ) → number_in (heads machines ready os) k ≤ 2 * max_total
 unfolding heads
 heads-small machines ready [] within early short k = omega arith
 heads-small machines ready (o ∷ os) within early short zero = omega (arith, early, within.each o.machine)
 heads-small machines ready (o ∷ os) within early short (suc k) =
     heads-small machines (head_of machines ready o + o.time) os within (omega (arith, early, short, within.each o.machine)) (omega (arith, short)) k
 
-head_at-small : (s : JobShop) (steps jobs machines : List ℕ) (j k : ℕ) → IsJobShop s → FitTo s steps jobs machines → head_at s steps jobs machines j k ≤ 2 * total_limit
+head_at-small : (s : JobShop) (steps jobs machines : List ℕ) (j k : ℕ) → IsJobShop s → FitTo s steps jobs machines → head_at s steps jobs machines j k ≤ 2 * max_total
 head_at-small s steps jobs machines j k shop fit =
     let left = left_of s steps j in
     let time = row_time-drop (number_in steps j) (row_at s.rows j) in
@@ -118,11 +118,11 @@ row_small s steps jobs machines m row shop fit is =
       times =
           omega (arith, left-time p f row (λ v. refl), total-permutation time_of (visits s m) row is.same, rows_visits-time m 0 s.rows, shop.times);
       heads =
-          All-map (λ (x : Task). x.head ≤ 2 * total_limit) f kept
-          (All-weaker (IsVisit s m) (λ v. (f v).head ≤ 2 * total_limit) (λ v of. head_at-small s steps jobs machines v.job v.step shop fit) kept each);
+          All-map (λ (x : Task). x.head ≤ 2 * max_total) f kept
+          (All-weaker (IsVisit s m) (λ v. (f v).head ≤ 2 * max_total) (λ v of. head_at-small s steps jobs machines v.job v.step shop fit) kept each);
       tails =
-          All-map (λ (x : Task). x.tail ≤ total_limit) f kept
-          (All-weaker (IsVisit s m) (λ v. (f v).tail ≤ total_limit)
+          All-map (λ (x : Task). x.tail ≤ max_total) f kept
+          (All-weaker (IsVisit s m) (λ v. (f v).tail ≤ max_total)
           (λ v of. omega (arith, of.tail, row_time-drop (v.step + 1) (row_at s.rows v.job), row_time-le s.rows v.job, shop.times)) kept each);
     }
 
@@ -169,5 +169,5 @@ rows_visits-count n m j (r ∷ rs) all =
       rows_visits-count n m (j + 1) rs all.1,
     )
 
-pub row_short : (s : JobShop) (m : ℕ) (row : List Visit) → IsJobShop s → IsRow s m row → length row ≤ operation_limit
+pub row_short : (s : JobShop) (m : ℕ) (row : List Visit) → IsJobShop s → IsRow s m row → length row ≤ max_operations
 row_short s m row shop is = omega (arith, length_permutation (visits s m) row is.same, rows_visits-count s.machines m 0 s.rows shop.steps, shop.size)

@@ -12,7 +12,8 @@ use Rattle.bb_onemach.specs.Thresholds.{one_machine_bound}
 unfoldable pub bound_by : JobShop → List ℕ → List ℕ → List ℕ → ℕ
 bound_by s steps jobs machines =
     max (greatest (each_from (finish_at s steps jobs machines) 0 (length s.rows)))
-    (max (greatest machines) (greatest (each_from (λ m. one_machine_bound (tasks s steps jobs machines m)) 0 s.machines)))
+    (max (greatest machines)
+    (greatest (each_from (λ m. one_machine_bound (tasks s steps jobs machines m)) 0 s.machines)))
 
 -- the bound of a state; a job's next step is the number of its start times
 abbrev pub bound_at : JobShop → State → ℕ

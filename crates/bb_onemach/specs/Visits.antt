@@ -35,7 +35,8 @@ heads machines ready (o ∷ os) =
 -- The head of the operation of job j at step k, which is left, where these are the jobs' next steps, the jobs' ready
 -- times and the machines' ready times.
 abbrev pub head_at : JobShop → List ℕ → List ℕ → List ℕ → ℕ → ℕ → ℕ
-head_at s steps jobs machines j k = number_in (heads machines (number_in jobs j) (left_of s steps j)) (k - number_in steps j)
+head_at s steps jobs machines j k =
+    number_in (heads machines (number_in jobs j) (left_of s steps j)) (k - number_in steps j)
 
 -- the operation is left
 abbrev pub is_left : List ℕ → Visit → Bool

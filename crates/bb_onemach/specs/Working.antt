@@ -1,7 +1,8 @@
 -- What the program makes of a node: tables of heads and tasks.
-use Rattle.std.specs.Prelude.{ℕ, ◌≡◌, ◌+◌, ◌*◌, ◌≤◌, ◌<◌, nat_eq, nat_le, if◌then◌else◌, List, [], ◌∷◌, length, max, All, AllPairs, slice_index_or}
+use Rattle.std.specs.Prelude.{ℕ, ◌≡◌, ◌+◌, ◌*◌, ◌≤◌, ◌<◌, nat_eq, nat_le, if◌then◌else◌, List, [], ◌∷◌, length, max}
+use Rattle.std.specs.Prelude.{All, AllPairs, slice_index_or}
 use Rattle.std.specs.List.Sorted.{IsPermutation}
-use Rattle.inst_text.specs.Limits.{total_limit}
+use Rattle.inst_text.specs.Limits.{max_total}
 use Rattle.inst_text.specs.Shop.{JobShop}
 use Rattle.bb_problem.specs.Tree.{total}
 use Rattle.bb_shop.specs.declared.prepared_operation.PreparedOperation.{PreparedOperation}
@@ -38,9 +39,9 @@ Falls xs = AllPairs (λ (x y : Task). y.tail ≤ x.tail) xs
 
 -- the tasks' numbers are within the limits
 pub record AreSmall (xs : List Task) : Type 0 where
-  pub times : total (λ (x : Task). x.time) xs ≤ total_limit
-  pub heads : All (λ (x : Task). x.head ≤ 2 * total_limit) xs
-  pub tails : All (λ (x : Task). x.tail ≤ total_limit) xs
+  pub times : total (λ (x : Task). x.time) xs ≤ max_total
+  pub heads : All (λ (x : Task). x.head ≤ 2 * max_total) xs
+  pub tails : All (λ (x : Task). x.tail ≤ max_total) xs
 
 -- The greatest of the sums of a head, of the times so far of tasks with no lower head, and of the tail of the last of
 -- them, where so much time was before.

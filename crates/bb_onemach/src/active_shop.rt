@@ -1,5 +1,6 @@
 //! The job shop as it is branched actively, and its calls.
 ghost use Rattle.std.specs.Prelude.{ℕ, ◌≡◌, ◌≤◌, length, map, All, IfOk};
+ghost use Rattle.inst_text.specs.Limits.{max_operations};
 ghost use Rattle.inst_text.specs.Shop.{IsJobShop, operations};
 ghost use Rattle.bb_shop.specs.Working.{FitTo};
 ghost use Rattle.bb_onemach.specs.Bounds.{bound_by, root_bound};
@@ -9,21 +10,22 @@ use crate::heads::write_all_heads;
 use crate::task::{NO_TASK, Task, one_machine_bound, put_tasks};
 use crate::visit::{Visit, all_visits};
 use bb_shop::{Shop, greatest_of};
-use inst_text::{JOB_LIMIT, Jobs, MACHINE_LIMIT, OPERATION_LIMIT};
+use inst_text::{Jobs, MAX_JOBS, MAX_MACHINES, MAX_OPERATIONS};
 use pq_io::NoMemory;
 use std::alloc::Global;
 use std::marker::Model;
 
-// How many operations a small table of heads has room for, and how many a small table of one machine's tasks has.
-const FEW_OPERATIONS: usize = 256;
+// How many operations the tables of heads have room for, and how many those of one machine's tasks.
+const FEW_OPERATIONS: usize = 64;
+
+const SOME_OPERATIONS: usize = 256;
 
 const FEW_TASKS: usize = 16;
 
-const MOST_OPERATIONS: usize = OPERATION_LIMIT as usize;
+const MOST_OPERATIONS: usize = MAX_OPERATIONS as usize;
 
-/// The job-shop problem: when to start each operation of some jobs, so that the last one ends early. Its search goes
-/// through active schedules, in which no operation can be started earlier without another one starting later, and
-/// bounds a node by what each machine still has to do.
+/// The job-shop problem: when to start each operation of some jobs, so that the last one ends early. A node
+/// branches on jobs that compete for one machine alone, and is bounded by what each machine still has to do.
 ///
 /// Beside the shop it keeps the operations of each machine, by falling tails.
 #[derive(Debug, Drop)]
@@ -61,15 +63,15 @@ impl ActiveShop {
         &self.shop
     }
 
-    /// The least makespan that the bound of the root allows, at most `TOTAL_LIMIT`: the greatest of the jobs' times and,
-    /// over the machines, of what their operations take at least (J. Carlier, The one-machine sequencing problem, 1982).
-    /// It takes no memory.
+    /// The least makespan that the bound of the root allows, at most `MAX_TOTAL`: the greatest of the jobs' times and,
+    /// over the machines, of what their operations take at least (J. Carlier, The one-machine sequencing problem,
+    /// 1982). It takes no memory.
     pub fn root_bound(&self) -> u32
         ensures { result ≡ root_bound self.now }
     {
         let jobs = self.shop.job_count();
         let machines = self.shop.machine_count();
-        let none = [0u32; (JOB_LIMIT + MACHINE_LIMIT) as usize];
+        let none = [0u32; (MAX_JOBS + MAX_MACHINES) as usize];
         self.bound_by(&none[..jobs], &none[..jobs], &none[..machines])
     }
 
@@ -80,29 +82,37 @@ impl ActiveShop {
         ensures { result ≡ bound_by self.now steps.now jobs.now machines.now }
     {
         // Small tables are set up faster, and are enough for most shops.
+        let rows = self.rows.as_slice();
         let operations = self.shop.job_count() * self.shop.machine_count();
-        if operations <= FEW_OPERATIONS && self.rows.iter().all(|row| row.len() <= FEW_TASKS) {
-            bound_over(
-                &self.shop,
-                self.rows.as_slice(),
-                steps,
-                jobs,
-                machines,
-                &mut [0; FEW_OPERATIONS],
-                &mut [NO_TASK; FEW_TASKS],
-            )
+        let few_tasks = rows.iter().all(|row| row.len() <= FEW_TASKS);
+        if operations <= FEW_OPERATIONS && few_tasks {
+            bound_with::<FEW_OPERATIONS, FEW_TASKS>(&self.shop, rows, steps, jobs, machines)
+        } else if operations <= SOME_OPERATIONS && few_tasks {
+            bound_with::<SOME_OPERATIONS, FEW_TASKS>(&self.shop, rows, steps, jobs, machines)
         } else {
-            bound_over(
-                &self.shop,
-                self.rows.as_slice(),
-                steps,
-                jobs,
-                machines,
-                &mut [0; MOST_OPERATIONS],
-                &mut [NO_TASK; MOST_OPERATIONS],
-            )
+            bound_with::<MOST_OPERATIONS, MOST_OPERATIONS>(&self.shop, rows, steps, jobs, machines)
         }
     }
+}
+
+// The bound of a node, with tables of so many heads and so many tasks. A function clears all of its tables when it is
+// entered, so each size has a function of its own.
+fn bound_with<const HEADS: usize, const TASKS: usize>(
+    shop: &Shop,
+    rows: &[Vec<Visit>],
+    steps: &[u32],
+    jobs: &[u32],
+    machines: &[u32],
+) -> u32
+    requires rows { AreRows shop.now (map (λ row. row.items) rows.now) }
+    requires fit { FitTo shop.now steps.now jobs.now machines.now }
+    requires heads { operations shop.now ≤ HEADS }
+    requires tasks { All (λ row. length row.items ≤ TASKS) rows.now }
+    requires few { (HEADS ≤ max_operations) × (TASKS ≤ max_operations) }
+    ensures { result ≡ bound_by shop.now steps.now jobs.now machines.now }
+{
+    let (mut heads, mut tasks) = ([0; HEADS], [NO_TASK; TASKS]);
+    bound_over(shop, rows, steps, jobs, machines, &mut heads, &mut tasks)
 }
 
 // The bound of a node, with a table that has room for each operation's head and one for each machine's tasks.

@@ -25,7 +25,8 @@ fn critical(shop: &Shop, node: &ShopNode, jobs: &[u8]) -> usize
     critical
 }
 
-// Tells whether a job is the critical one, or its next operation needs the same machine and starts before that one ends.
+// Tells whether a job is the critical one, or its next operation needs the same machine and starts before that one
+// ends.
 fn competes(job: usize, critical: usize, next: Booking, soonest: Booking) -> bool
     ensures { result ≡ (nat_eq job critical || (nat_eq next.machine soonest.machine && nat_lt next.start soonest.end)) }
 {

@@ -1,7 +1,7 @@
 //! When the operations that are left start at the earliest.
 ghost use Rattle.std.specs.Prelude.{ℕ, ◌≡◌, ◌≤◌, ◌<◌, ◌+◌, ◌*◌, length};
 ghost use Rattle.std.specs.List.{AllByRecursion};
-ghost use Rattle.inst_text.specs.Limits.{total_limit};
+ghost use Rattle.inst_text.specs.Limits.{max_total};
 ghost use Rattle.inst_text.specs.Shop.{operations, row_time};
 ghost use Rattle.bb_shop.specs.Bounds.{finish, greatest, each_from};
 ghost use Rattle.bb_shop.specs.Tables.{operations_in};
@@ -23,9 +23,9 @@ fn write_heads(
 ) -> u32
     requires named { AllByRecursion (λ p. p.operation.machine < length machines.now) operations.now }
     requires places { place + length operations.now ≤ length table.old }
-    requires within { AreUpTo total_limit machines.now }
-    requires start { from ≤ total_limit }
-    requires time { row_time (operations_in operations.now) ≤ total_limit }
+    requires within { AreUpTo max_total machines.now }
+    requires start { from ≤ max_total }
+    requires time { row_time (operations_in operations.now) ≤ max_total }
     ensures finish { result ≡ finish machines.now from (operations_in operations.now) }
     ensures written { IsWritten place (heads machines.now from (operations_in operations.now)) table.old table.new }
 {
@@ -50,7 +50,8 @@ pub fn write_all_heads(
 ) -> u32
     requires fit { FitTo shop.now steps.now jobs.now machines.now }
     requires places { operations shop.now ≤ length table.old }
-    ensures finish { result ≡ greatest (each_from (finish_at shop.now steps.now jobs.now machines.now) 0 (length shop.now.rows)) }
+    ensures finish { result ≡
+        greatest (each_from (finish_at shop.now steps.now jobs.now machines.now) 0 (length shop.now.rows)) }
     ensures heads { HasHeads shop.now steps.now jobs.now machines.now table.new }
     ensures length { length table.new ≡ length table.old }
 {

@@ -1,7 +1,7 @@
 //! What is proved of the definitions.
 ghost use Rattle.std.specs.Prelude.{ℕ, List, ◌≡◌, ◌≢◌, ◌≤◌, [], ◌∷◌, Contains};
 ghost use Rattle.inst_text.specs.Shop.{JobShop, IsJobShop};
-ghost use Rattle.inst_text.specs.Limits.{total_limit};
+ghost use Rattle.inst_text.specs.Limits.{max_total};
 ghost use Rattle.bb_problem.specs.Tree.{below};
 ghost use Rattle.bb_problem.specs.Meaning.{IsLawful};
 ghost use Rattle.bb_shop.specs.Dispatching.{IsOrder};
@@ -20,7 +20,7 @@ pub fn a_branch_loses_nothing()
 /// Law: no node's bound exceeds the limit of all times.
 #[tactic(auto, using(crate::specs::TreeLawsHold::Bounded::bound_within))]
 pub fn bounds_are_within()
-    ensures { (s : JobShop) (name : List ℕ) → IsJobShop s → IsOrder s name → bound_of s name ≤ total_limit }
+    ensures { (s : JobShop) (name : List ℕ) → IsJobShop s → IsOrder s name → bound_of s name ≤ max_total }
 {}
 
 /// Law: the tree of active schedules meets all laws of a problem.

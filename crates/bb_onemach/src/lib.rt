@@ -7,6 +7,8 @@ mod heads;
 mod laws;
 mod problem;
 mod task;
+#[cfg(test)]
+mod tests;
 mod visit;
 
 pub use active_shop::ActiveShop;

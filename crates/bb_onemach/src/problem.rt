@@ -12,7 +12,7 @@ use crate::active_shop::ActiveShop;
 use crate::branching::competing;
 use bb_problem::{Problem, Step};
 use bb_shop::ShopNode;
-use inst_text::{Starts, TOTAL_LIMIT};
+use inst_text::{MAX_TOTAL, Starts};
 use pq_io::NoMemory;
 use std::alloc::Global;
 
@@ -44,11 +44,11 @@ impl Problem for ActiveShop {
             return 0;
         }
         self.bound_by(node.steps(), node.jobs(), node.machines())
-            .min(TOTAL_LIMIT)
+            .min(MAX_TOTAL)
     }
 
-    /// The plan of a node that dispatches all operations, else a child for each job that competes for the machine of the
-    /// operation that could end first. O(n) in the number of operations for each child and for the plan.
+    /// The plan of a node that dispatches all operations, else a child for each job that competes for the machine of
+    /// the operation that could end first. O(n) in the number of operations for each child and for the plan.
     fn expand(&self, alloc: Global, node: ActiveNode) -> Result<Step<Starts, ActiveNode>, NoMemory>
         ensures range { IfOk result (IsInRange (makespan self.now)) }
         ensures expanded { IfOk result (λ step. (name : List ℕ) → Stands self.now node name →

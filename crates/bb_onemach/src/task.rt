@@ -1,6 +1,6 @@
 //! What a machine still has to do, and what it takes at least.
 ghost use Rattle.std.specs.Prelude.{◌≡◌, ◌≤◌, ◌<◌, ◌+◌, ◌*◌, All, AllPairs, length, map, filter, take};
-ghost use Rattle.inst_text.specs.Limits.{total_limit};
+ghost use Rattle.inst_text.specs.Limits.{max_total};
 ghost use Rattle.bb_onemach.specs.Visits.{is_left};
 ghost use Rattle.bb_onemach.specs.Thresholds.{one_machine_bound};
 ghost use Rattle.bb_onemach.specs.Working.{swept, AreSmall, Falls, IsPlaced, task_by};
@@ -57,7 +57,7 @@ pub fn put_tasks(
 // last of them. One pass.
 fn sweep(tasks: &[Task], head: u32) -> u32
     requires small { AreSmall tasks.now }
-    requires head { head ≤ 2 * total_limit }
+    requires head { head ≤ 2 * max_total }
     ensures { result ≡ swept head 0 tasks.now }
 {
     let mut time = 0;

@@ -1,6 +1,6 @@
 //! The operations of each machine, prepared once: those of a machine by falling tails.
 ghost use Rattle.std.specs.Prelude.{◌≡◌, ◌≤◌, ◌<◌, ◌++◌, length, map, IfOk, OnOk};
-ghost use Rattle.inst_text.specs.Limits.{job_limit, machine_limit};
+ghost use Rattle.inst_text.specs.Limits.{max_jobs, max_machines};
 ghost use Rattle.bb_onemach.specs.Working.{prepared_visits, IsRow, AreRows};
 
 use bb_shop::{PreparedOperation, Shop};
@@ -24,8 +24,8 @@ fn add_visits(
     machine: usize,
     job: usize,
 ) -> Result<(), NoMemory>
-    requires job { job ≤ job_limit }
-    requires few { length operations.now ≤ machine_limit }
+    requires job { job ≤ max_jobs }
+    requires few { length operations.now ≤ max_machines }
     ensures { OnOk result (row.new.items ≡ row.old.items ++ prepared_visits machine job 0 operations.now) }
 {
     for (step, prepared) in operations.iter().enumerate() {

@@ -6,7 +6,7 @@ use Rattle.std.proofs.lemmas.Bool.Decides.{nat_tests}
 use Rattle.std.proofs.lemmas.List.{get_or-map, length-map, length-drop}
 use Rattle.std.proofs.lemmas.List.Elements.{All-filter, All-contains, All-contains_itself, filter_passes, Contains-get_or}
 use Rattle.std.proofs.lemmas.List.Kept.{AllPairs-filter}
-use Rattle.inst_text.specs.Limits.{total_limit}
+use Rattle.inst_text.specs.Limits.{max_total}
 use Rattle.inst_text.specs.Shop.{JobShop, IsJobShop}
 use Rattle.bb_problem.specs.Tree.{total}
 use Rattle.bb_shop.specs.Plans.{row_at, start_at, IsFeasible, makespan}
@@ -224,7 +224,7 @@ bounded s name v shop r =
     )
 
 -- No node's bound exceeds the limit of all times.
-pub bound_within : (s : JobShop) (name : List ℕ) → IsJobShop s → IsOrder s name → bound_of s name ≤ total_limit
+pub bound_within : (s : JobShop) (name : List ℕ) → IsJobShop s → IsOrder s name → bound_of s name ≤ max_total
 bound_within s name shop order =
     let on = goes_on s name shop order in
     let reached = order_reaches s name on.0 shop on.1 on.2 in
