@@ -3,5 +3,6 @@ pub mod Taking
 pub mod Replayed
 pub mod Places
 pub mod Alone
+pub mod Apart
 pub mod Keeps
 pub mod Filling

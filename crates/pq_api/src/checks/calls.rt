@@ -1,6 +1,7 @@
 //! Calls of a queue with one seat, and whether its answers are those that are wanted.
 ghost use Rattle.std.specs.Prelude.{◌≡◌, ◌+◌, ◌-◌, ◌^◌, ◌<◌, ◌≤◌, length};
 ghost use Rattle.pq_api.specs.Limits.{call_limit};
+ghost use Rattle.pq_api.specs.Checks.{IsSameSeat};
 
 use crate::{Below, BoundedQueue, CloseRefusal, Closed, Inserted, Removed};
 use pq_io::NoMemory;
@@ -48,6 +49,7 @@ pub(crate) fn call<R: Wait + Sync, Q: BoundedQueue>(
     requires few { length (Q.known pass.old).calls < call_limit - 1 }
     ensures own { Q.belongs queue.now pass.new }
     ensures one { length (Q.known pass.new).calls ≡ length (Q.known pass.old).calls + 1 }
+    ensures same { IsSameSeat (Q.known pass.old) (Q.known pass.new) }
 {
     match act {
         Act::Insert(e) => match queue.insert(rt, pass, e) {
