@@ -1,0 +1,15 @@
+use Rattle.std.proofs.Common.{◌+◌, ap, ◌∙◌}
+use Rattle.std.specs.Prelude.{slice_index_or}
+use Rattle.pq_model.specs.declared.passes.Known.{Known}
+use Rattle.pq_pool.proofs.BenchAllows.{newcomer_is_loose}
+use Rattle.pq_pool.proofs.bench.Bench.open.Goals as goal
+
+pub open-requires : goal.open-requires
+open-requires c = c.in_ok-words.ensures.begins c.args.capacity
+
+pub returns-clause-passes : goal.returns-clause-passes
+returns-clause-passes c = let q = c.in_ok-shared.shared in λ i d lt.
+    let p = slice_index_or c.in_ok-shared.passes.items i d in let e = c.in_ok-shared.ensures.passes i d lt in (
+      newcomer_is_loose q.table.shared.table_id q.table.shared.key p.number p.lanes (i + 1) p.seat e.0 e.2,
+      e.0.named ∙ ap (λ (x : Known). x.number) e.1,
+    )

@@ -1,0 +1,22 @@
+use Rattle.std.proofs.Common.{ℕ, ◌+◌, ◌-◌, arith}
+use Rattle.pq_pool.specs.Parts.{pool_view}
+use Rattle.pq_pool.specs.Views.{grace_stored}
+use Rattle.pq_pool.proofs.Allowing.{may_store_grace}
+use Rattle.pq_pool.proofs.PassLemmas.{builder_stays, names_grace_stored}
+use Rattle.pq_pool.proofs.steps.store_grace.Goals as goal
+
+pub store-requires : goal.store-requires
+store-requires g c =
+    let R = g.R.SeatRule.rule in let P = g.R.PoolRule.pool in let laws = g.met.R.PoolRule.pool_laws in let B = g.R.PoolRule.BUILDER in let lawful = g.R.SeatRule.lawful in
+    let k = c.args.shared.now.table.shared.key in let z = c.args.shared.now.table.shared.table_id in let seat = c.args.pass.now.seat in
+    let long = c.args.shared.now.sized.0 in let key = c.args.shared.now.sized.1 in let at = c.requires.builder in let room = at.all.chunks.room in
+    let seats = c.args.shared.now.seated.0 in let few = c.args.shared.now.seated.1.1 in let low = c.requires.seat.0 in let high = c.requires.seat.1 in
+    (at.sits.table, omega arith, may_store_grace R lawful P B laws k z.slots seat.id seat.me at.holds c.args.seat c.args.bit (low, omega arith))
+
+pub returns-clause-same : goal.returns-clause-same
+returns-clause-same g c =
+    let R = g.R.SeatRule.rule in let P = g.R.PoolRule.pool in let laws = g.met.R.PoolRule.pool_laws in let B = g.R.PoolRule.BUILDER in let lawful = g.R.SeatRule.lawful in
+    let k = c.args.shared.now.table.shared.key in let z = c.args.shared.now.table.shared.table_id in let seat = c.args.pass.now.seat in
+    let long = c.args.shared.now.sized.0 in let key = c.args.shared.now.sized.1 in let at = c.requires.builder in let e = c.store.ensures in
+    let v = pool_view P seat.me.0 in let n : ℕ = 33 + c.args.seat - 33 in
+    builder_stays P z k c.args.pass.now.number c.args.pass.now.lanes seat c.store.new.seat (grace_stored v n c.args.bit) e.0 e.1 e.2 (laws.reads _ _) at (names_grace_stored k v at.all n c.args.bit)

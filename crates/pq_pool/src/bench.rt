@@ -1,0 +1,153 @@
+//! A rule with the words of the base and of the pool alone, on which the calls of the pool can be made without a queue.
+ghost use Rattle.std.specs.Prelude.{◌≡◌, ℕ, ◌+◌, ◌*◌, ◌≤◌, Contains, IfOk, MatchBool, length};
+ghost use Rattle.pq_model.specs.Limits.{max_seats};
+ghost use Rattle.pq_model.specs.History.{IsSeat};
+ghost use Rattle.pq_api.specs.Answers.{EachAt};
+ghost use Rattle.pq_seats.specs.Seats.{Begins, limits_for};
+ghost use Rattle.pq_seats.specs.Passes.{view_of, Belongs, IsSamePass};
+ghost use Rattle.pq_pool.specs.Limits.{max_chunks};
+ghost use Rattle.pq_pool.specs.Layout.{builder_word, first_chunk, chunk_words};
+ghost use Rattle.pq_pool.specs.States.{IsBuilt, IsLive};
+ghost use Rattle.pq_pool.specs.Views.{moved};
+ghost use Rattle.pq_pool.specs.Passes.{pool_of, HoldsBuilder, StaysBuilder, StaysSeated, AgreesAt};
+ghost use Rattle.pq_pool.specs.Bench.{bench_rule, bench_pool, IsLoose};
+ghost use Rattle.pq_pool.specs.BenchLawsHold.{bench_lawful, bench_pool_laws};
+
+use crate::layout::{BUILDER_WORD, CHUNK_WORDS, FIRST_CHUNK};
+use crate::{PoolRule, PoolView, chunks, pins};
+use pq_io::NoMemory;
+use pq_seats::{SeatPass, SeatRule, Shared};
+use std::alloc::Global;
+use std::sync::Wait;
+
+/// A table with a pool and nothing else. Its history stays empty, and no chunk links to another.
+pub struct Bench;
+
+impl SeatRule for Bench {
+    type Own = PoolView;
+
+    ghost rule = { bench_rule };
+
+    ghost lawful = { bench_lawful };
+}
+
+impl PoolRule for Bench {
+    const BUILDER: u32 = BUILDER_WORD;
+
+    ghost BUILDER = { 17 };
+
+    ghost pool = { bench_pool };
+
+    ghost pool_laws = { bench_pool_laws };
+}
+
+pub type BenchPass = SeatPass<Bench>;
+
+/// The words of a fresh bench: every chunk is free, every link is 0, and no pin or grace bit is set. They suit any
+/// capacity, since a bench holds no entries.
+pub fn bench_words(alloc: Global, chunks: u32, seats: u32) -> Result<Vec<u64>, NoMemory>
+    requires chunks { (1 ≤ chunks) × (chunks ≤ max_chunks) }
+    requires seats { IsSeat max_seats seats }
+    ensures long { IfOk result (λ v. length v.items ≡ first_chunk + chunk_words * chunks) }
+    ensures begins { IfOk result (λ v. (capacity : ℕ)
+        → Begins bench_rule (limits_for capacity seats v.items) v.items) }
+{
+    let count = FIRST_CHUNK + CHUNK_WORDS * chunks as usize;
+    let mut words = Vec::new(alloc);
+    for _ in 0..count {
+        words.push(0)?;
+    }
+    Ok(words)
+}
+
+impl Bench {
+    /// Opens a fresh bench, and gives all its passes at once. None of them has a pin or the builder's word.
+    pub fn open(
+        alloc: Global,
+        chunks: u32,
+        capacity: u32,
+        seats: u32,
+    ) -> Result<(Shared<Bench>, Vec<BenchPass>), NoMemory>
+        requires chunks { (1 ≤ chunks) × (chunks ≤ max_chunks) }
+        requires seats { IsSeat max_seats seats }
+        ensures long { IfOk result (λ r. r.0.words ≡ first_chunk + chunk_words * chunks) }
+        ensures seats { IfOk result (λ r. r.0.seats ≡ seats) }
+        ensures count { IfOk result (λ r. length r.1.items ≡ seats) }
+        ensures passes { IfOk result (λ r. EachAt (λ i p.
+            IsLoose r.0 p × (p.number ≡ i + 1)) r.1.items) }
+    {
+        let words = bench_words(alloc, chunks, seats)?;
+        let (shared, passes) = Shared::open(alloc, words, capacity, seats)?;
+        Ok((shared, passes))
+    }
+
+    /// Tries to take the builder's word, by one exchange. The seat has no pin.
+    pub fn try_hold(shared: &Shared<Bench>, pass: &mut BenchPass) -> bool
+        requires wide { first_chunk ≤ shared.now.words }
+        requires loose { IsLoose shared.now pass.old }
+        ensures same { IsSamePass pass.old pass.new }
+        ensures held { MatchBool result
+            (HoldsBuilder bench_pool shared.now pass.new
+            × AgreesAt bench_pool shared.now pass.new)
+            (IsLoose shared.now pass.new) }
+    {
+        shared.try_lock(pass, Bench::BUILDER)
+    }
+
+    /// Takes the builder's word. It backs off between two tries, and may wait for ever.
+    pub fn hold<W: Wait>(rt: &W, shared: &Shared<Bench>, pass: &mut BenchPass)
+        requires wide { first_chunk ≤ shared.now.words }
+        requires loose { IsLoose shared.now pass.old }
+        ensures same { IsSamePass pass.old pass.new }
+        ensures held { HoldsBuilder bench_pool shared.now pass.new }
+        ensures agrees { AgreesAt bench_pool shared.now pass.new }
+    {
+        shared.lock(rt, pass, Bench::BUILDER);
+    }
+
+    /// Frees the builder's word, where all words are as they count.
+    pub fn free(shared: &Shared<Bench>, pass: &mut BenchPass)
+        requires builder { HoldsBuilder bench_pool shared.now pass.old }
+        requires agrees { AgreesAt bench_pool shared.now pass.old }
+        ensures same { IsSamePass pass.old pass.new }
+        ensures loose { IsLoose shared.now pass.new }
+    {
+        shared.unlock(pass, Bench::BUILDER);
+    }
+
+    /// `unpin` of the pool, with no leave to ask for.
+    pub fn unpin(shared: &Shared<Bench>, pass: &mut BenchPass)
+        requires wide { first_chunk ≤ shared.now.words }
+        requires own { Belongs shared.now pass.old }
+        requires no_lock { ¬ Contains (view_of pass.old).post.locks builder_word }
+        ensures same { StaysSeated bench_pool shared.now pass.old pass.new }
+        ensures loose { IsLoose shared.now pass.new }
+    {
+        pins::unpin(shared, pass);
+    }
+
+    /// `publish` of the pool, with no leave to ask for.
+    pub fn publish(shared: &Shared<Bench>, pass: &mut BenchPass, chunk: u32)
+        requires builder { HoldsBuilder bench_pool shared.now pass.old }
+        requires built { IsBuilt (pool_of bench_pool pass.old).stored chunk }
+        ensures same { StaysBuilder bench_pool shared.now pass.old pass.new }
+        ensures live { pool_of bench_pool pass.new ≡ moved (pool_of bench_pool pass.old) chunk 2 }
+        ensures agrees { AgreesAt bench_pool shared.now pass.old → AgreesAt bench_pool shared.now pass.new }
+        ensures stays { (c : ℕ) → IsLive (pool_of bench_pool pass.old).counted c
+            → IsLive (pool_of bench_pool pass.new).counted c }
+        ensures now { IsLive (pool_of bench_pool pass.new).counted chunk }
+    {
+        chunks::publish(shared, pass, chunk);
+    }
+
+    /// `retire` of the pool, with no leave to ask for.
+    pub fn retire(shared: &Shared<Bench>, pass: &mut BenchPass, chunk: u32)
+        requires builder { HoldsBuilder bench_pool shared.now pass.old }
+        requires live { IsLive (pool_of bench_pool pass.old).counted chunk }
+        ensures same { StaysBuilder bench_pool shared.now pass.old pass.new }
+        ensures young { pool_of bench_pool pass.new ≡ moved (pool_of bench_pool pass.old) chunk 3 }
+        ensures agrees { AgreesAt bench_pool shared.now pass.old → AgreesAt bench_pool shared.now pass.new }
+    {
+        chunks::retire(shared, pass, chunk);
+    }
+}
