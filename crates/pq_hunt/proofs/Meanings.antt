@@ -1,0 +1,50 @@
+-- What a word says of a node.
+use Rattle.std.proofs.Common.{◌≡◌, ◌⊎◌, ℕ, ◌≤◌, inl, inr, refl, ap, ◌∙◌, sym, subst, ⊎_elim, lit<}
+use Rattle.pq_words.specs.declared.entries.Entry.{Entry}
+use Rattle.pq_words.specs.Entries.{raw_of}
+use Rattle.pq_words.specs.declared.heap_words.Tag.{Tag}
+use Rattle.pq_words.specs.declared.heap_words.Tag.TheVariants as tags
+use Rattle.pq_words.specs.declared.heap_words.HeapWord.{HeapWord}
+use Rattle.pq_words.specs.HeapWords.{FitsHeapWord, heap_number}
+use Rattle.pq_words.proofs.HeapNumbers.{one_heap_word}
+use Rattle.pq_hunt.specs.declared.nodes.Node.{Node}
+use Rattle.pq_hunt.specs.declared.nodes.Node.TheVariants.{Empty}
+use Rattle.pq_hunt.specs.Order.{HasWord, MayStandOver}
+use Rattle.pq_hunt.specs.Words.{node_with, node_of, Means}
+use Rattle.pq_hunt.specs.Laws.{WordsMeanOneNode}
+
+-- a word that was packed says what it was packed of
+pub packed_means : (w : HeapWord) (word : ℕ) → FitsHeapWord w → heap_number w ≡ word → Means (node_of w) word
+packed_means w word fits is = record { packed = w; fits = fits; number = is; node = refl }
+
+-- and what was unpacked from a word is what its node counts as
+pub unpacked_node : (w : HeapWord) (word : ℕ) (v : Node) → FitsHeapWord w → heap_number w ≡ word → Means v word
+    → node_of w ≡ v
+unpacked_node w word v fits is means = ap node_of (one_heap_word.same w means.packed fits means.fits
+    (is ∙ sym means.number)) ∙ means.node
+
+-- a word speaks of one node
+pub one_meaning : WordsMeanOneNode
+one_meaning u v word a b = sym a.node ∙ unpacked_node a.packed word v a.fits a.number b
+
+-- a node that a word speaks of is Empty, or Available or Busy, and no hole
+pub no_hole : (v : Node) (word : ℕ) → Means v word → (v ≡ Empty) ⊎ ((e : Entry) × HasWord v e)
+no_hole v word means = subst (λ (u : Node). (u ≡ Empty) ⊎ ((e : Entry) × HasWord u e)) means.node
+    (of_tag means.packed.tag means.packed.owner means.packed.entry)
+  where
+    of_tag : (t : Tag) (o : ℕ) (e : Entry) → (node_with t o e ≡ Empty) ⊎ ((e' : Entry) × HasWord (node_with t o e) e')
+    of_tag tags.Empty o e = inl refl
+    of_tag tags.Available o e = inr (e, inl refl)
+    of_tag tags.Busy o e = inr (e, inr (o, refl))
+
+-- what may stand over a node, as its word shows
+pub may_word : (x : Entry) (v : Node) → (v ≡ Empty) ⊎ ((e : Entry) × HasWord v e × (raw_of x ≤ raw_of e))
+    → MayStandOver x v
+may_word x v shown = ⊎_elim (λ e. subst (MayStandOver x) (sym e) tt)
+    (λ w. ⊎_elim (λ q. subst (MayStandOver x) (sym q) w.2) (λ q. subst (MayStandOver x) (sym q.1) w.2) w.1) shown
+
+-- the word 0 says that a node is Empty
+pub empty_means : Means Empty 0
+unfolding raw_of
+empty_means = let none : Entry = record { key = 0; id = 0; key_fits = lit< tt; id_fits = lit< tt } in
+    packed_means (record { tag = tags.Empty; owner = 0; entry = none }) 0 (refl, refl, refl) refl

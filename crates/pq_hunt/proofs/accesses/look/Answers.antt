@@ -1,0 +1,14 @@
+use Rattle.std.proofs.Common.{ℕ, sym, subst, arith}
+use Rattle.atomic_table.specs.Table.{step, Allows}
+use mathlib.Core.Option.{none}
+use Rattle.pq_seats.specs.Rules.{Holds}
+use Rattle.pq_hunt.specs.Rules.{hunt_rule}
+use Rattle.pq_hunt.specs.Steps as steps
+use Rattle.pq_hunt.proofs.Moves.{may_look}
+use Rattle.pq_hunt.proofs.accesses.look.Goals as goal
+
+pub load-requires : goal.load-requires
+load-requires c =
+    let k = c.args.table.now.table.shared.key in let me = c.args.pass.now.seat.me in let id = c.args.pass.now.seat.id in let own = c.requires.own in let slots = c.args.table.now.table.shared.table_id.slots in
+    let size = c.args.table.now.sized.0 in let words = c.requires.table.words in let seated = own.seated.0 in let named = own.named in
+    (own.table, omega (arith, c.word_of.ensures, c.requires.node.1), subst (λ (z : ℕ). Allows (Holds hunt_rule k) slots id me z (λ n. n) (steps.looks (step slots z 0 0 none) me)) (sym c.word_of.ensures) (may_look k slots id me c.args.node own.empty))

@@ -1,0 +1,21 @@
+-- What the heap's nodes count as, the facts of the heap, and the laws of its steps.
+pub mod Nodes
+pub mod Order
+pub mod Flights
+pub mod Facts
+pub mod Letters
+pub mod Words
+pub mod Marks
+pub mod Laws
+pub mod Layout
+pub mod Views
+pub mod Batches
+pub mod Ties
+pub mod Rules
+pub mod LawsHold
+pub mod Steps
+pub mod Passes
+pub mod Tables
+pub mod Turns
+pub mod Queues
+pub mod Takes

@@ -1,0 +1,55 @@
+-- What a remover has taken.
+use Rattle.std.specs.Prelude.{◌≡◌, ℕ, ◌-◌, ◌≤◌, [], ◌∷◌, Option, Some, None}
+use Rattle.pq_words.specs.declared.entries.Entry.{Entry}
+use Rattle.pq_words.specs.declared.heap_words.HeapWord.{HeapWord}
+use Rattle.pq_words.specs.HeapWords.{heap_number}
+use Rattle.pq_model.specs.declared.marks.Act.{Act}
+use Rattle.pq_model.specs.declared.marks.Act.TheVariants.{RemoveBelow}
+use Rattle.pq_model.specs.declared.marks.Reply.{Reply}
+use Rattle.pq_model.specs.declared.marks.Reply.TheVariants as replies
+use Rattle.pq_api.specs.Answers.{MakesCall}
+use Rattle.pq_seats.specs.declared.shared.Shared.{Shared}
+use Rattle.pq_seats.specs.declared.shared.SeatPass.{SeatPass}
+use Rattle.pq_seats.specs.Views.{empty_post}
+use Rattle.pq_seats.specs.Passes.{view_of, known, IsInformed}
+use Rattle.pq_hunt.specs.Marks.{MayGet}
+use Rattle.pq_hunt.specs.declared.remove.Taken.{Taken}
+use Rattle.pq_hunt.specs.declared.remove.Taken.TheVariants as takes
+use Rattle.pq_hunt.specs.declared.views.HuntPart.{HuntPart}
+use Rattle.pq_hunt.specs.declared.nodes.Node.TheVariants.{Empty, Hole}
+use Rattle.pq_hunt.specs.Views.{idle, guard}
+use Rattle.pq_hunt.specs.Passes.{at_hole, removing}
+
+-- a removal takes nothing of an entry with its key at this limit or above it, and may else take it
+abbrev pub IsBarred : Act → Entry → Option ℕ → Type 0
+IsBarred act e (Some limit) = (act ≡ RemoveBelow limit) × (limit ≤ e.key)
+IsBarred act e None = MayGet act e
+
+module _ {R : Type 0} (q : Shared R HuntPart) (p p' : SeatPass R HuntPart) (act : Act) where
+  -- the removal was answered at this place, and the seat holds nothing
+  pub record IsAnswered (place : ℕ) (reply : Reply) : Type 0 where
+    pub rests : (view_of p').post ≡ empty_post idle p.number
+    pub call : MakesCall (known p) place act reply (known p')
+    pub knows : IsInformed q p'
+
+  -- The removal was answered at this place with the root's entry, and no letter is owed. The root is a hole with the
+  -- last node's entry in hand, and the last node is Empty
+  pub record IsPlaced (root last : HeapWord) (size place : ℕ) : Type 0 where
+    pub placed : (view_of p').post ≡ removing p.number [] (size - 1) (size - 1)
+        (guard 1 (heap_number root) (Hole last.entry) ∷ guard size 0 Empty ∷ [])
+    pub call : MakesCall (known p) place act (replies.Got root.entry) (known p')
+    pub knows : IsInformed q p'
+
+  -- the removal was answered at this place, and the seat holds the root's lock alone: the root is a hole with this
+  -- entry in hand
+  pub record IsOpened (got : Entry) (place : ℕ) (hand : Entry) : Type 0 where
+    pub word : ℕ
+    pub opened : (view_of p').post ≡ at_hole p.number 1 word hand
+    pub call : MakesCall (known p) place act (replies.Got got) (known p')
+    pub knows : IsInformed q p'
+
+  abbrev pub IsTaken : Taken → Type 0
+  IsTaken (takes.Empty place) = IsAnswered place replies.Empty
+  IsTaken (takes.Above place) = (limit : ℕ) × (act ≡ RemoveBelow limit) × IsAnswered place replies.Above
+  IsTaken (takes.Last got place) = MayGet act got × IsAnswered place (replies.Got got)
+  IsTaken (takes.Sift got place hand) = MayGet act got × IsOpened got place hand

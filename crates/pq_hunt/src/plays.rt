@@ -1,0 +1,85 @@
+//! The heap's own steps on its table.
+ghost use Rattle.pq_hunt.specs.Steps.{looks, looks_at_size, stores_size, stores, leafs, climbs, sifts, sifts_third};
+ghost use Rattle.pq_hunt.specs.Steps.{fills};
+ghost use Rattle.pq_hunt.specs.Steps.{finds, finds_at_root};
+
+use crate::HuntPart;
+use atomic_table::Play;
+use pq_seats::View;
+
+/// A load of a node's word, under its lock.
+pub(crate) struct Look;
+
+impl Play<(), View<HuntPart>> for Look {
+    ghost then = { looks };
+}
+
+/// A load of the size, under its lock.
+pub(crate) struct LookAtSize;
+
+impl Play<(), View<HuntPart>> for LookAtSize {
+    ghost then = { looks_at_size };
+}
+
+/// A store of the size, under its lock.
+pub(crate) struct StoreSize;
+
+impl Play<(), View<HuntPart>> for StoreSize {
+    ghost then = { stores_size };
+}
+
+/// A store of a node's word, under its lock. The node counts as it did.
+pub(crate) struct Store;
+
+impl Play<(), View<HuntPart>> for Store {
+    ghost then = { stores };
+}
+
+/// The store that makes a new leaf Busy.
+pub(crate) struct Leaf;
+
+impl Play<(), View<HuntPart>> for Leaf {
+    ghost then = { leafs };
+}
+
+/// The store of an entry that climbs into the parent's word.
+pub(crate) struct Climb;
+
+impl Play<(), View<HuntPart>> for Climb {
+    ghost then = { climbs };
+}
+
+/// The store of the left child's word into a hole.
+pub(crate) struct Sift;
+
+impl Play<(), View<HuntPart>> for Sift {
+    ghost then = { sifts };
+}
+
+/// The store of the right child's word into a hole.
+pub(crate) struct SiftRight;
+
+impl Play<(), View<HuntPart>> for SiftRight {
+    ghost then = { sifts_third };
+}
+
+/// The store of the entry in hand into a hole.
+pub(crate) struct Fill;
+
+impl Play<(), View<HuntPart>> for Fill {
+    ghost then = { fills };
+}
+
+/// An owner's load of the word of the node where it looks for its entry.
+pub(crate) struct Find;
+
+impl Play<(), View<HuntPart>> for Find {
+    ghost then = { finds };
+}
+
+/// The same of the root.
+pub(crate) struct FindAtRoot;
+
+impl Play<(), View<HuntPart>> for FindAtRoot {
+    ghost then = { finds_at_root };
+}
