@@ -1,0 +1,4 @@
+-- What the runs of scripts say.
+pub mod Answers
+pub mod Lanes
+pub mod Tracing

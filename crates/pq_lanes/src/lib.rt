@@ -1,0 +1,16 @@
+//! Scripts of several lanes, run on any bounded queue by one caller for each lane, and the history that comes of it.
+#![tactic(auto)]
+
+mod answers;
+mod callers;
+mod ending;
+mod lane;
+mod running;
+#[cfg(test)]
+mod tests;
+mod tracing;
+
+pub use answers::{Answer, answer_to_insert, answer_to_remove, answer_to_remove_below};
+pub use ending::history_of;
+pub use running::{Lanes, run_lanes};
+pub use tracing::trace_script;
