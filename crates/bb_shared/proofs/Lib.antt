@@ -1,0 +1,8 @@
+-- What is shown of the steps of the store and of the control.
+pub mod Sums
+pub mod Counts
+pub mod StoreSeats
+pub mod StoreSteps
+pub mod Costs
+pub mod ControlSteps
+pub mod Draws

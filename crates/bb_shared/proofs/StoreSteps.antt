@@ -1,0 +1,563 @@
+-- Each step of a store keeps the rule of its table.
+use Rattle.std.proofs.Common.{◌≡◌, ◌≢◌, ℕ, zero, suc, ◌+◌, ◌-◌, ◌*◌, ◌%◌, ◌^◌, ◌<◌, ◌≤◌, Bool, true, false, not, eqb, ltb, leb, cond, List, [], ◌∷◌, ◌++◌, map, length, get_or, set, replicate, sym, refl, ap, ◌∙◌, subst, ⊎_elim, arith, eq-eqb, ne_eqb, length-set, get_or-set_same, get_or-set_other, mod-eq_of_lt}
+use Rattle.std.specs.Prelude.{Contains, Some, None, Option, sum_by}
+use Rattle.std.proofs.lemmas.List.{set-get_or, length-replicate}
+use Rattle.std.proofs.lemmas.List.Elements.{Contains-push_cases, Contains-append_cases}
+use Rattle.std.proofs.lemmas.List.Sums.{sum_by_push, sum_by-append}
+use Rattle.std.proofs.lemmas.Bool.{le-ltb}
+use Rattle.std.proofs.lemmas.Bool.Decides.{leb_tells}
+use mathlib.Core.Option.{some, none, some-injective, some-ne-none}
+use mathlib.Core.Logic.{dite}
+use native.Mathlib.Decide.{ℕ_discrete, dec_lt}
+use lib.ListN.{get_elem?}
+use Rattle.atomic_table.specs.Table.{State, Me, Act, Valid, carried_after, step, keeps, takes, gives, stepped, Allows, Splits, Joins, opening}
+use Rattle.atomic_table.proofs.Lists.{at_snoc, set_here, set_else, set_again, exchanged}
+use prog.Atomic.{either}
+use Rattle.bb_shared.specs.declared.store.stored.Draw.{Draw}
+use Rattle.bb_shared.specs.declared.store.stored.Numbered.{Numbered}
+use Rattle.bb_shared.specs.declared.store.stored.StoreView.{StoreView}
+use Rattle.bb_shared.specs.Stores.{numbered, draw_of, HasNoOver, IsFree, with_draw, with_put, with_take, times, times_drawn, drawn_in_all, KnowsStore}
+use Rattle.bb_shared.specs.StoreRules.{is_putting, is_put, is_taken, times_in, parts_by, count_drawn_by, over_by, times_over, drawn_by, putting_by, put_by, taken_by, FitsStore, IsStore, store_view, with_kept, giver, given_one, one_part, views_joined, spent_view, drew, began_put, ended_put, tried_take, ended_take, learned}
+use Rattle.bb_shared.proofs.Sums.{sum_set, sum_kept, one-le-sum, sum-le, sum-le_at, sum_alone, some_in_sum, here, each_set}
+use Rattle.bb_shared.proofs.StoreSeats.{first_held}
+use Rattle.bb_shared.proofs.Counts.{one_if, same_one, other_none, times-push, times-append, times-contains, contains-times, none-times, length-le_different, times_drawn-push, times_drawn-append, in_next_draw, times_drawn-contains, none_counted}
+
+is_put-le : (n : ℕ) → is_put n ≤ 1
+is_put-le zero = omega arith
+is_put-le (suc zero) = omega arith
+is_put-le (suc (suc n)) = omega arith
+
+is_taken-le : (n : ℕ) → is_taken n ≤ 1
+is_taken-le zero = omega arith
+is_taken-le (suc zero) = omega arith
+is_taken-le (suc (suc zero)) = omega arith
+is_taken-le (suc (suc (suc n))) = omega arith
+
+-- a node that was taken was put
+taken_put : (n : ℕ) → 0 < is_taken n → is_put n ≡ 1
+taken_put zero h = absurd (omega arith)
+taken_put (suc zero) h = absurd (omega arith)
+taken_put (suc (suc n)) h = refl
+
+-- and the word is past the taking for good
+taken_done : (n : ℕ) → 0 < is_taken n → (is_putting n ≡ 0) × (is_put n ≡ 1) × (is_taken n ≡ 1)
+taken_done zero h = absurd (omega arith)
+taken_done (suc zero) h = absurd (omega arith)
+taken_done (suc (suc zero)) h = absurd (omega arith)
+taken_done (suc (suc (suc n))) h = (refl, refl, refl)
+
+none_word : (n : ℕ) → is_putting n ≡ 0 → is_put n ≡ 0 → n ≡ 0
+none_word zero a b = refl
+none_word (suc zero) a b = absurd (omega arith)
+none_word (suc (suc n)) a b = absurd (omega arith)
+
+putting_word : (n : ℕ) → 0 < is_putting n → n ≡ 1
+putting_word zero h = absurd (omega arith)
+putting_word (suc zero) h = refl
+putting_word (suc (suc n)) h = absurd (omega arith)
+
+-- past the end there is nothing
+get_or-past : (l : List ℕ) (i : ℕ) → length l ≤ i → get_or l i 0 ≡ 0
+get_or-past [] i h = refl
+get_or-past (x ∷ xs) zero h = absurd (omega arith)
+get_or-past (x ∷ xs) (suc i) h = get_or-past xs i (omega arith)
+
+next : (x : ℕ) → suc x ≡ x + 1
+next x = omega arith
+
+apart : ◌≡◌ {A = ℕ} 0 2 → ⊥
+apart e = absurd (omega arith)
+
+-- the word of another number
+word_else : (l : List ℕ) (x y n : ℕ) → y ≢ x → get_or (set l (suc x) n) (suc y) 0 ≡ get_or l (suc y) 0
+word_else l x y n ne = get_or-set_other l (suc x) (suc y) n 0 (λ e. ne (omega arith))
+
+one_if-le : (b : Bool) → one_if b ≤ 1
+one_if-le true = omega arith
+one_if-le false = omega arith
+
+get_or-replicate_zero : (n j : ℕ) → get_or {A = ℕ} (replicate n 0) j 0 ≡ 0
+get_or-replicate_zero zero j = refl
+get_or-replicate_zero (suc n) zero = refl
+get_or-replicate_zero (suc n) (suc j) = get_or-replicate_zero n j
+
+length-nones : (N : Type 0) (n : ℕ) → length (map some (replicate {A = Option N} n None)) ≡ n
+length-nones N zero = refl
+length-nones N (suc n) = ap suc (length-nones N n)
+
+none_home : {N : Type 0} (n x : ℕ) → x < n → get_elem? (map some (replicate {A = Option N} n None)) x ≡ some (some None)
+none_home zero x lt = absurd (omega arith)
+none_home (suc n) zero lt = refl
+none_home (suc n) (suc x) lt = none_home n x (omega arith)
+
+one_view : {V : Type 0} (v : V) (j : ℕ) (u : V) → get_elem? (v ∷ []) j ≡ some u → v ≡ u
+one_view v zero u e = some-injective v u e
+one_view v (suc j) u e = absurd (some-ne-none u (sym e))
+
+module _ {N : Type 0} (k : ℕ) where
+  same_node : (o : Option N) (p q : Numbered N) → p.number ≡ q.number → o ≡ Some p.node → o ≡ Some q.node → p ≡ q
+  same_node o p q n a b = let m : p.node ≡ q.node = cc in λ i. numbered (n i) (m i)
+
+  -- what a seat knows wherever the rule holds
+  pub knows : (s : State (Option N) (StoreView N)) → IsStore k s → (id : ℕ) (v : StoreView N) → get_elem? s.views id ≡ some v → 0 < v.kept.parts → KnowsStore (length s.homes) v.kept
+  knows s h id v at some_part =
+      let puts_once : (x : ℕ) → times x v.kept.puts ≤ 1 = λ x. let a = one-le-sum (put_by x) s.views id v at in let b = h.put x in let c = is_put-le (get_or s.words (suc x) 0) in omega arith in
+      let takes_once : (x : ℕ) → times x v.kept.takes ≤ 1 = λ x. let a = one-le-sum (taken_by x) s.views id v at in let b = h.taken x in let c = is_taken-le (get_or s.words (suc x) 0) in omega arith in
+      let past : (x : ℕ) → length s.homes ≤ x → get_or s.words (suc x) 0 ≡ 0 = λ x le. get_or-past s.words (suc x) (let w = h.wide in omega arith) in
+      let f = h.each id v at in
+      let all : v.kept.parts ≡ v.kept.seats → v.kept.parts ≡ sum_by parts_by s.views = λ whole. whole ∙ (f.whole some_part ∙ sym h.parts) in
+      let node : (p : Numbered N) → Contains v.kept.puts p → h.node_of p.number ≡ Some p.node = f.puts in
+      record {
+        puts_once = puts_once;
+        takes_once = takes_once;
+        few_puts = length-le_different v.kept.puts (length s.homes) puts_once (λ x le. let a = one-le-sum (put_by x) s.views id v at in let b = h.put x in let c = ap is_put (past x le) in omega arith);
+        few_takes = length-le_different v.kept.takes (length s.homes) takes_once (λ x le. let a = one-le-sum (taken_by x) s.views id v at in let b = h.taken x in let c = ap is_taken (past x le) in omega arith);
+        matched = λ whole. record {
+          from_puts = λ t c.
+              let a = times-contains v.kept.takes t c in let b = one-le-sum (taken_by t.number) s.views id v at in let d = h.taken t.number in
+              let e = taken_put (get_or s.words (suc t.number) 0) (omega arith) in let g = h.put t.number in
+              let alone = sum_alone (put_by t.number) parts_by s.views id v at (all whole) (λ j u there z. ap (times t.number) ((h.each j u there).idle z).puts) in
+              let p = contains-times t.number v.kept.puts (omega arith) in
+              subst (Contains v.kept.puts) (same_node (h.node_of t.number) p.entry t p.is (subst (λ (n : ℕ). h.node_of n ≡ Some p.entry.node) p.is (node p.entry p.within)) (f.takes t c)) p.within;
+          put_once = λ p q a b same. same_node (h.node_of p.number) p q same (node p a) (subst (λ (n : ℕ). h.node_of n ≡ Some q.node) (sym same) (node q b));
+        };
+        tiled = λ whole x.
+            let alone = sum_alone (drawn_by x) parts_by s.views id v at (all whole) (λ j u there z. ap (times_drawn x) ((h.each j u there).idle z).draws) in
+            let counts = sum_alone count_drawn_by parts_by s.views id v at (all whole) (λ j u there z. ap drawn_in_all ((h.each j u there).idle z).draws) in
+            sym alone ∙ (h.drawn x ∙ ap (λ (n : ℕ). one_if (ltb x n)) (h.made ∙ counts));
+      }
+
+  -- a number that is drawn lies below the made word
+  drawn_low : (s : State (Option N) (StoreView N)) → IsStore k s → (id x : ℕ) (v : StoreView N) → get_elem? s.views id ≡ some v → 0 < times_drawn x v.kept.draws → x < get_or s.words 0 0
+  drawn_low s h id x v at some_draw = dite (dec_lt x (get_or s.words 0 0)) (λ lt. lt)
+      (λ no. let a = one-le-sum (drawn_by x) s.views id v at in let b = h.drawn x in let c = ap one_if (le-ltb x (get_or s.words 0 0) (omega arith)) in absurd (omega arith))
+
+  put_low : (s : State (Option N) (StoreView N)) → IsStore k s → (id : ℕ) (v : StoreView N) → get_elem? s.views id ≡ some v → (p : Numbered N) → Contains v.kept.puts p → p.number < get_or s.words 0 0
+  put_low s h id v at p c = drawn_low s h id p.number v at (let a = times-contains v.kept.puts p c in let b = (h.each id v at).own p.number in omega arith)
+
+  -- a step that leaves a word and a view as they were leaves all as it was
+  pub unchanged : (s : State (Option N) (StoreView N)) (i id : ℕ) (v : StoreView N) (c : List (ℕ × Option N)) → get_elem? s.views id ≡ some v → IsStore k s → IsStore k (stepped s i (get_or s.words i 0) id c v keeps)
+  unchanged s i id v c at h = let a : s.words ≡ set s.words i (get_or s.words i 0) = sym (set-get_or s.words i 0) in let b : s.views ≡ set s.views id v = sym (set_again s.views id v at) in
+      subst (IsStore k) (λ j. record { words = a j; homes = s.homes; views = b j }) h
+
+  -- Drawing adds to the made word and to the draws of the seat
+  pub draws : (slots id : ℕ) (me : Me (Option N) (StoreView N)) (count limit : ℕ) → 0 < me.0.kept.parts → HasNoOver me.0.kept → count ≤ 100 → limit < 2 ^ 32
+      → Allows (IsStore k) slots id me 0 (λ x. (x + count) % 2 ^ 64) (λ x w. drew (step slots 0 count 0 none) me x w limit)
+  draws slots id me count limit some_part under small low s h hs at fits =
+      let v = me.0 in let made : ℕ = get_or s.words 0 0 in let within : Bool = leb (made + count) limit in
+      let d : Draw = draw_of made count within in
+      let w : StoreView N = with_kept v (with_draw v.kept d) in
+      let f = h.each id v at in
+      let no_over : over_by v ≡ 0 = none_counted (λ (e : Draw). not e.within) v.kept.draws (λ e c. ap not (under e c)) in
+      let overs = sum-le over_by parts_by s.views (λ j u a. (h.each j u a).over) in
+      let ps = h.parts in let few = h.few in let wide = h.wide in
+      let bound : made ≤ 2 ^ 32 + 100 * sum_by over_by s.views = h.bounded in
+      let total : made + count < 2 ^ 33 = omega arith in
+      let n : (made + count) % 2 ^ 64 ≡ made + count = mod-eq_of_lt (omega arith) in
+      let word : get_or (set s.words 0 ((made + count) % 2 ^ 64)) 0 0 ≡ made + count = get_or-set_same s.words 0 ((made + count) % 2 ^ 64) 0 (omega arith) ∙ n in
+      let other : (x : ℕ) → get_or (set s.words 0 ((made + count) % 2 ^ 64)) (suc x) 0 ≡ get_or s.words (suc x) 0 = λ x. get_or-set_other s.words 0 (suc x) ((made + count) % 2 ^ 64) 0 (λ e. omega arith) in
+      let over : over_by w ≡ over_by v + one_if (not within) = sum_by_push (λ (e : Draw). one_if (not e.within)) v.kept.draws d in
+      let now : IsStore k (stepped s 0 ((made + count) % 2 ^ 64) id me.1 w keeps) = record {
+        few = h.few;
+        wide = length-set s.words 0 ((made + count) % 2 ^ 64) ∙ h.wide;
+        parts = sum_kept parts_by s.views id v w at refl ∙ h.parts;
+        made = word ∙ (let a = sum_set count_drawn_by s.views id v w at in let b : count_drawn_by w ≡ count_drawn_by v + count = sum_by_push (λ (e : Draw). e.count) v.kept.draws d in let c = h.made in omega arith);
+        bounded = subst (λ z. z ≤ 2 ^ 32 + 100 * sum_by over_by (set s.views id w)) (sym word) (let a = sum_set over_by s.views id v w at in ⊎_elim
+            (λ t. let b = t.1 in omega arith)
+            (λ t. let b : one_if (not within) ≡ 1 = ap (λ z. one_if (not z)) t.0 in omega arith)
+            (leb_tells (made + count) limit));
+        drawn = λ x. let a = sum_set (drawn_by x) s.views id v w at in let b = times_drawn-push x v.kept.draws d in let c = h.drawn x in let e = in_next_draw x made count within in
+            (let z : sum_by (drawn_by x) (set s.views id w) ≡ one_if (ltb x (made + count)) = omega arith in z) ∙ ap (λ (z : ℕ). one_if (ltb x z)) (sym word);
+        putting = λ x. sum_kept (putting_by x) s.views id v w at refl ∙ (h.putting x ∙ ap is_putting (sym (other x)));
+        put = λ x. sum_kept (put_by x) s.views id v w at refl ∙ (h.put x ∙ ap is_put (sym (other x)));
+        taken = λ x. sum_kept (taken_by x) s.views id v w at refl ∙ (h.taken x ∙ ap is_taken (sym (other x)));
+        node_of = h.node_of;
+        each = subst (λ z. (j : ℕ) (u : StoreView N) → get_elem? (set s.views id w) j ≡ some u → FitsStore k z h.node_of u) (sym word) (each_set (FitsStore k (made + count) h.node_of) s.views id w
+            (record {
+              idle = λ z. absurd (omega arith);
+              whole = f.whole;
+              front = omega arith;
+              own = λ x. let a = f.own x in let b = times_drawn-push x v.kept.draws d in omega arith;
+              over = let b = one_if-le (not within) in omega arith;
+              puts = f.puts;
+              takes = f.takes;
+            })
+            (λ j u there. let g = h.each j u there in record { idle = g.idle; whole = g.whole; front = (let a = g.front in omega arith); own = g.own; over = g.over; puts = g.puts; takes = g.takes }));
+        empty = λ x lt is. h.empty x lt (sym (other x) ∙ is);
+        full = λ x is. h.full x (sym (other x) ∙ is);
+      } in
+      (w, keeps, tt, now, (refl, f.front, put_low s h id v at, total, subst (λ z. KnowsStore z w.kept) hs (knows (stepped s 0 ((made + count) % 2 ^ 64) id me.1 w keeps) now id w (here s.views id v w at) some_part)))
+
+  -- What a step on the word of a number keeps: how often each number is put and taken follows its word, and the rest stays
+  pub moved : (s : State (Option N) (StoreView N)) (h : IsStore k s) (id x n : ℕ) (v w : StoreView N) (homes : List (mathlib.Core.Option.Option (Option N))) (node_of : ℕ → Option N) → get_elem? s.views id ≡ some v
+      → length homes ≡ length s.homes → w.kept.parts ≡ v.kept.parts → w.kept.draws ≡ v.kept.draws
+      → ((y : ℕ) → is_putting (get_or (set s.words (suc x) n) (suc y) 0) + putting_by y v ≡ is_putting (get_or s.words (suc y) 0) + putting_by y w)
+      → ((y : ℕ) → is_put (get_or (set s.words (suc x) n) (suc y) 0) + put_by y v ≡ is_put (get_or s.words (suc y) 0) + put_by y w)
+      → ((y : ℕ) → is_taken (get_or (set s.words (suc x) n) (suc y) 0) + taken_by y v ≡ is_taken (get_or s.words (suc y) 0) + taken_by y w)
+      → FitsStore k (get_or s.words 0 0) node_of w
+      → ((j : ℕ) (u : StoreView N) → get_elem? s.views j ≡ some u → FitsStore k (get_or s.words 0 0) node_of u)
+      → ((y : ℕ) → y < length homes → get_or (set s.words (suc x) n) (suc y) 0 ≡ 0 → get_elem? homes y ≡ some (some None))
+      → ((y : ℕ) → get_or (set s.words (suc x) n) (suc y) 0 ≡ 2 → get_elem? homes y ≡ some (some (node_of y)))
+      → IsStore k (record { words = set s.words (suc x) n; homes = homes; views = set s.views id w })
+  moved s h id x n v w homes node_of at size parts draws putting put taken fits others empty full =
+      let made : get_or (set s.words (suc x) n) 0 0 ≡ get_or s.words 0 0 = get_or-set_other s.words (suc x) 0 n 0 (λ e. omega arith) in
+      record {
+        few = h.few;
+        wide = length-set s.words (suc x) n ∙ (h.wide ∙ ap suc (sym size));
+        parts = sum_kept parts_by s.views id v w at parts ∙ h.parts;
+        made = made ∙ (h.made ∙ sym (sum_kept count_drawn_by s.views id v w at (ap drawn_in_all draws)));
+        bounded = let a = sum_kept over_by s.views id v w at (ap times_over draws) in let b = h.bounded in subst (λ z. z ≤ 2 ^ 32 + 100 * sum_by over_by (set s.views id w)) (sym made) (omega arith);
+        drawn = λ y. sum_kept (drawn_by y) s.views id v w at (ap (times_drawn y) draws) ∙ (h.drawn y ∙ ap (λ z. one_if (ltb y z)) (sym made));
+        putting = λ y. let a = sum_set (putting_by y) s.views id v w at in let b = putting y in let c = h.putting y in omega arith;
+        put = λ y. let a = sum_set (put_by y) s.views id v w at in let b = put y in let c = h.put y in omega arith;
+        taken = λ y. let a = sum_set (taken_by y) s.views id v w at in let b = taken y in let c = h.taken y in omega arith;
+        node_of = node_of;
+        each = subst (λ z. (j : ℕ) (u : StoreView N) → get_elem? (set s.views id w) j ≡ some u → FitsStore k z node_of u) (sym made) (each_set (FitsStore k (get_or s.words 0 0) node_of) s.views id w fits others);
+        empty = empty;
+        full = full;
+      }
+
+  -- A number that the seat drew and put nothing under has the word none
+  free_word : (s : State (Option N) (StoreView N)) → IsStore k s → (id x : ℕ) (v : StoreView N) → get_elem? s.views id ≡ some v → v.putting ≡ None → IsFree v.kept x → get_or s.words (suc x) 0 ≡ 0
+  free_word s h id x v at idle free =
+      let some_draw = times_drawn-contains x v.kept.draws free.draw free.drawn free.from free.to in
+      let none_put = none-times x v.kept.puts free.unput in
+      let not_now : putting_by x v ≡ 0 = ap (times_in x) idle in
+      let a = h.drawn x in let a' = one_if-le (ltb x (get_or s.words 0 0)) in
+      let b = sum-le_at (put_by x) (drawn_by x) s.views id v at (λ j u there. let o = (h.each j u there).own x in omega arith) in
+      let c = sum-le_at (putting_by x) (drawn_by x) s.views id v at (λ j u there. let o = (h.each j u there).own x in omega arith) in
+      let d = h.put x in let e = h.putting x in
+      none_word (get_or s.words (suc x) 0) (omega arith) (omega arith)
+
+  begins_put-suc : (slots id x : ℕ) (me : Me (Option N) (StoreView N)) → 0 < me.0.kept.parts → me.0.putting ≡ None → x < slots → IsFree me.0.kept x
+      → Allows (IsStore k) slots id me (suc x) (λ n. either (eqb n 0) 1 n) (began_put (step slots (suc x) 0 1 none) me)
+  begins_put-suc slots id x me some_part idle within free s h hs at fits =
+      let v = me.0 in let f = h.each id v at in let old : ℕ = get_or s.words (suc x) 0 in
+      let zero_word : old ≡ 0 = free_word s h id x v at idle free in
+      let w : StoreView N = store_view v.kept (Some x) in
+      let homes = set s.homes x none in
+      let wide = h.wide in
+      let now : get_or (set s.words (suc x) 1) (suc x) 0 ≡ 1 = get_or-set_same s.words (suc x) 1 0 (omega arith) in
+      let quiet : (y : ℕ) → putting_by y v ≡ 0 = λ y. ap (times_in y) idle in
+      let new : IsStore k (stepped s (suc x) 1 id me.1 w (takes x None)) = moved s h id x 1 v w homes h.node_of at (length-set s.homes x none) refl refl
+      (λ y. dite (ℕ_discrete y x)
+      (λ e. subst (λ z. is_putting (get_or (set s.words (suc x) 1) (suc z) 0) + putting_by z v ≡ is_putting (get_or s.words (suc z) 0) + putting_by z w) (sym e) (let a = ap is_putting now in let b = ap is_putting zero_word in let c = quiet x in let d = same_one x x refl in omega arith))
+      (λ ne. let a = ap is_putting (word_else s.words x y 1 ne) in let c = quiet y in let d = other_none x y (λ z. ne (sym z)) in omega arith))
+      (λ y. dite (ℕ_discrete y x)
+      (λ e. subst (λ z. is_put (get_or (set s.words (suc x) 1) (suc z) 0) + put_by z v ≡ is_put (get_or s.words (suc z) 0) + put_by z v) (sym e) (let a = ap is_put now in let b = ap is_put zero_word in omega arith))
+      (λ ne. let a = ap is_put (word_else s.words x y 1 ne) in omega arith))
+      (λ y. dite (ℕ_discrete y x)
+      (λ e. subst (λ z. is_taken (get_or (set s.words (suc x) 1) (suc z) 0) + taken_by z v ≡ is_taken (get_or s.words (suc z) 0) + taken_by z v) (sym e) (let a = ap is_taken now in let b = ap is_taken zero_word in omega arith))
+      (λ ne. let a = ap is_taken (word_else s.words x y 1 ne) in omega arith))
+      (record {
+        idle = λ z. absurd (omega arith);
+        whole = f.whole;
+        front = f.front;
+        own = λ y. dite (ℕ_discrete y x)
+            (λ e. subst (λ z. put_by z w + putting_by z w ≤ drawn_by z w) (sym e) (let a = times_drawn-contains x v.kept.draws free.draw free.drawn free.from free.to in let b = none-times x v.kept.puts free.unput in let d = same_one x x refl in omega arith))
+            (λ ne. let a = f.own y in let c = quiet y in let d = other_none x y (λ z. ne (sym z)) in omega arith);
+        over = f.over;
+        puts = f.puts;
+        takes = f.takes;
+      })
+      h.each
+      (λ y lt is. dite (ℕ_discrete y x)
+      (λ e. let a : get_or (set s.words (suc x) 1) (suc y) 0 ≡ 1 = ap (λ z. get_or (set s.words (suc x) 1) (suc z) 0) e ∙ now in absurd (omega arith))
+      (λ ne. set_else s.homes x y none ne ∙ h.empty y (let l = length-set s.homes x none in omega arith) (sym (word_else s.words x y 1 ne) ∙ is)))
+      (λ y is. dite (ℕ_discrete y x)
+      (λ e. let a : get_or (set s.words (suc x) 1) (suc y) 0 ≡ 1 = ap (λ z. get_or (set s.words (suc x) 1) (suc z) 0) e ∙ now in absurd (omega arith))
+      (λ ne. set_else s.homes x y none ne ∙ h.full y (sym (word_else s.words x y 1 ne) ∙ is)))
+      in
+      subst (λ z. (u : StoreView N) × (a : Act (Option N)) × Valid s.homes me.1 a × IsStore k (stepped s (suc x) (either (eqb z 0) 1 z) id me.1 u a) × began_put (step slots (suc x) 0 1 none) me z (u, carried_after me.1 a)) (sym zero_word)
+      (w, takes x None, h.empty x (omega arith) zero_word, new, λ x' is. let e : x ≡ x' = omega arith in λ i. (store_view v.kept (Some (e i)), (e i, None) ∷ me.1))
+
+  ends_put-suc : (slots id x : ℕ) (v : StoreView N) (node : N) → 0 < v.kept.parts → v.putting ≡ Some x → x < slots
+      → Allows (IsStore k) slots id (v, (x, Some node) ∷ []) (suc x) (λ _. 2) (λ _. ended_put (step slots (suc x) 2 0 none) (v, (x, Some node) ∷ []) 2)
+  ends_put-suc slots id x v node some_part busy within s h hs at fits =
+      let f = h.each id v at in let wide = h.wide in
+      let mine : putting_by x v ≡ 1 = ap (times_in x) busy ∙ same_one x x refl in
+      let one = one-le-sum (putting_by x) s.views id v at in
+      let old : get_or s.words (suc x) 0 ≡ 1 = putting_word (get_or s.words (suc x) 0) (let a = h.putting x in omega arith) in
+      let none_put : sum_by (put_by x) s.views ≡ 0 = h.put x ∙ ap is_put old in
+      let none_taken : sum_by (taken_by x) s.views ≡ 0 = h.taken x ∙ ap is_taken old in
+      let p : Numbered N = numbered x node in
+      let w : StoreView N = store_view (with_put v.kept p) None in
+      let homes = set s.homes x (some (Some node)) in
+      let node_of : ℕ → Option N = λ y. cond (eqb y x) (Some node) (h.node_of y) in
+      let here_node : node_of x ≡ Some node = ap (λ t. cond t (Some node) (h.node_of x)) (eq-eqb x x refl) in
+      let else_node : (y : ℕ) → y ≢ x → node_of y ≡ h.node_of y = λ y ne. ap (λ t. cond t (Some node) (h.node_of y)) (ne_eqb y x ne) in
+      let now : get_or (set s.words (suc x) 2) (suc x) 0 ≡ 2 = get_or-set_same s.words (suc x) 2 0 (omega arith) in
+      let others : (j : ℕ) (u : StoreView N) → get_elem? s.views j ≡ some u → FitsStore k (get_or s.words 0 0) node_of u = λ j u there. let g = h.each j u there in record {
+        idle = g.idle;
+        whole = g.whole;
+        front = g.front;
+        own = g.own;
+        over = g.over;
+        puts = λ q c. else_node q.number (λ e. let a = one-le-sum (put_by x) s.views j u there in let b = subst (λ z. 0 < times z u.kept.puts) e (times-contains u.kept.puts q c) in absurd (omega arith)) ∙ g.puts q c;
+        takes = λ q c. else_node q.number (λ e. let a = one-le-sum (taken_by x) s.views j u there in let b = subst (λ z. 0 < times z u.kept.takes) e (times-contains u.kept.takes q c) in absurd (omega arith)) ∙ g.takes q c;
+      } in
+      let g = others id v at in
+      let new : IsStore k (stepped s (suc x) 2 id ((x, Some node) ∷ []) w gives) = moved s h id x 2 v w homes node_of at (length-set s.homes x (some (Some node))) refl refl
+      (λ y. dite (ℕ_discrete y x)
+      (λ e. subst (λ z. is_putting (get_or (set s.words (suc x) 2) (suc z) 0) + putting_by z v ≡ is_putting (get_or s.words (suc z) 0) + putting_by z w) (sym e) (let a = ap is_putting now in let b = ap is_putting old in omega arith))
+      (λ ne. let a = ap is_putting (word_else s.words x y 2 ne) in let c : putting_by y v ≡ 0 = ap (times_in y) busy ∙ other_none x y (λ z. ne (sym z)) in omega arith))
+      (λ y. dite (ℕ_discrete y x)
+      (λ e. subst (λ z. is_put (get_or (set s.words (suc x) 2) (suc z) 0) + put_by z v ≡ is_put (get_or s.words (suc z) 0) + put_by z w) (sym e) (let a = ap is_put now in let b = ap is_put old in let c = times-push x v.kept.puts p in let d = same_one x x refl in omega arith))
+      (λ ne. let a = ap is_put (word_else s.words x y 2 ne) in let c = times-push y v.kept.puts p in let d = other_none x y (λ z. ne (sym z)) in omega arith))
+      (λ y. dite (ℕ_discrete y x)
+      (λ e. subst (λ z. is_taken (get_or (set s.words (suc x) 2) (suc z) 0) + taken_by z v ≡ is_taken (get_or s.words (suc z) 0) + taken_by z v) (sym e) (let a = ap is_taken now in let b = ap is_taken old in omega arith))
+      (λ ne. let a = ap is_taken (word_else s.words x y 2 ne) in omega arith))
+      (record {
+        idle = λ z. absurd (omega arith);
+        whole = f.whole;
+        front = f.front;
+        own = λ y. let a = f.own y in let b = times-push y v.kept.puts p in let c : putting_by y v ≡ one_if (eqb x y) = ap (times_in y) busy in omega arith;
+        over = f.over;
+        puts = λ q c. ⊎_elim (λ t. g.puts q t) (λ e. subst (λ (z : Numbered N). node_of z.number ≡ Some z.node) e here_node) (Contains-push_cases v.kept.puts p q c);
+        takes = g.takes;
+      })
+      others
+      (λ y lt is. dite (ℕ_discrete y x)
+      (λ e. let a : get_or (set s.words (suc x) 2) (suc y) 0 ≡ 2 = ap (λ z. get_or (set s.words (suc x) 2) (suc z) 0) e ∙ now in absurd (omega arith))
+      (λ ne. set_else s.homes x y (some (Some node)) ne ∙ h.empty y (let l = length-set s.homes x (some (Some node)) in omega arith) (sym (word_else s.words x y 2 ne) ∙ is)))
+      (λ y is. dite (ℕ_discrete y x)
+      (λ e. subst (λ z. get_elem? homes z ≡ some (some (node_of z))) (sym e) (set_here s.homes x (some (Some node)) (omega arith) ∙ ap (λ z. some (some z)) (sym here_node)))
+      (λ ne. set_else s.homes x y (some (Some node)) ne ∙ (h.full y (sym (word_else s.words x y 2 ne) ∙ is) ∙ ap (λ z. some (some z)) (sym (else_node y ne)))))
+      in
+      let size : length homes ≡ slots = length-set s.homes x (some (Some node)) ∙ hs in
+      let known : KnowsStore slots w.kept = subst (λ z. KnowsStore z w.kept) size (knows (stepped s (suc x) 2 id ((x, Some node) ∷ []) w gives) new id w (here s.views id v w at) some_part) in (
+        w,
+        gives,
+        tt,
+        new,
+        λ x' node' is same.
+            let e : x ≡ x' = omega arith in let slot : Some node ≡ Some node' = ap first_held same in let n : node ≡ node' = cc in
+            (λ i. (store_view (with_put v.kept (numbered (e i) (n i))) None, []), known),
+      )
+
+  tries_take-suc : (slots id x : ℕ) (me : Me (Option N) (StoreView N)) → 0 < me.0.kept.parts → x < slots
+      → Allows (IsStore k) slots id me (suc x) (λ n. either (eqb n 2) 3 n) (tried_take (step slots (suc x) 2 3 none) me)
+  tries_take-suc slots id x me some_part within s h hs at fits =
+      let v = me.0 in let old : ℕ = get_or s.words (suc x) 0 in let wide = h.wide in
+      let F : ℕ → Type 0 = λ z. (u : StoreView N) × (a : Act (Option N)) × Valid s.homes me.1 a × IsStore k (stepped s (suc x) z id me.1 u a) × tried_take (step slots (suc x) 2 3 none) me old (u, carried_after me.1 a) in
+      exchanged old 2 3 F
+      (λ hit.
+      let f = h.each id v at in
+      let some_put = some_in_sum (put_by x) s.views (let a = h.put x in let b = ap is_put hit in omega arith) in
+      let has = contains-times x some_put.1.kept.puts some_put.3 in
+      let node : N = has.entry.node in
+      let putter = h.each some_put.0 some_put.1 some_put.2 in
+      let is_node : h.node_of x ≡ Some node = subst (λ z. h.node_of z ≡ Some node) has.is (putter.puts has.entry has.within) in
+      let low : x < get_or s.words 0 0 = drawn_low s h some_put.0 x some_put.1 some_put.2 (let a = putter.own x in let b = some_put.3 in omega arith) in
+      let p : Numbered N = numbered x node in
+      let w : StoreView N = with_kept v (with_take v.kept p) in
+      let homes = set s.homes x none in
+      let now : get_or (set s.words (suc x) 3) (suc x) 0 ≡ 3 = get_or-set_same s.words (suc x) 3 0 (omega arith) in
+      let new : IsStore k (stepped s (suc x) 3 id me.1 w (takes x (Some node))) = moved s h id x 3 v w homes h.node_of at (length-set s.homes x none) refl refl
+      (λ y. dite (ℕ_discrete y x)
+      (λ e. subst (λ z. is_putting (get_or (set s.words (suc x) 3) (suc z) 0) + putting_by z v ≡ is_putting (get_or s.words (suc z) 0) + putting_by z v) (sym e) (let a = ap is_putting now in let b = ap is_putting hit in omega arith))
+      (λ ne. let a = ap is_putting (word_else s.words x y 3 ne) in omega arith))
+      (λ y. dite (ℕ_discrete y x)
+      (λ e. subst (λ z. is_put (get_or (set s.words (suc x) 3) (suc z) 0) + put_by z v ≡ is_put (get_or s.words (suc z) 0) + put_by z v) (sym e) (let a = ap is_put now in let b = ap is_put hit in omega arith))
+      (λ ne. let a = ap is_put (word_else s.words x y 3 ne) in omega arith))
+      (λ y. dite (ℕ_discrete y x)
+      (λ e. subst (λ z. is_taken (get_or (set s.words (suc x) 3) (suc z) 0) + taken_by z v ≡ is_taken (get_or s.words (suc z) 0) + taken_by z w) (sym e) (let a = ap is_taken now in let b = ap is_taken hit in let c = times-push x v.kept.takes p in let d = same_one x x refl in omega arith))
+      (λ ne. let a = ap is_taken (word_else s.words x y 3 ne) in let c = times-push y v.kept.takes p in let d = other_none x y (λ z. ne (sym z)) in omega arith))
+      (record {
+        idle = λ z. absurd (omega arith);
+        whole = f.whole;
+        front = (let a = f.front in omega arith);
+        own = f.own;
+        over = f.over;
+        puts = f.puts;
+        takes = λ q c. ⊎_elim (λ t. f.takes q t) (λ e. subst (λ (z : Numbered N). h.node_of z.number ≡ Some z.node) e is_node) (Contains-push_cases v.kept.takes p q c);
+      })
+      h.each
+      (λ y lt is. dite (ℕ_discrete y x)
+      (λ e. let a : get_or (set s.words (suc x) 3) (suc y) 0 ≡ 3 = ap (λ z. get_or (set s.words (suc x) 3) (suc z) 0) e ∙ now in absurd (omega arith))
+      (λ ne. set_else s.homes x y none ne ∙ h.empty y (let l = length-set s.homes x none in omega arith) (sym (word_else s.words x y 3 ne) ∙ is)))
+      (λ y is. dite (ℕ_discrete y x)
+      (λ e. let a : get_or (set s.words (suc x) 3) (suc y) 0 ≡ 3 = ap (λ z. get_or (set s.words (suc x) 3) (suc z) 0) e ∙ now in absurd (omega arith))
+      (λ ne. set_else s.homes x y none ne ∙ h.full y (sym (word_else s.words x y 3 ne) ∙ is)))
+      in
+      let known : KnowsStore slots w.kept = subst (λ z. KnowsStore z w.kept) (length-set s.homes x none ∙ hs) (knows (stepped s (suc x) 3 id me.1 w (takes x (Some node))) new id w (here s.views id v w at) some_part) in (
+        w,
+        takes x (Some node),
+        h.full x hit ∙ ap (λ z. some (some z)) is_node,
+        new,
+        λ x' is.
+            let e : x ≡ x' = omega arith in
+            (λ found. (node, (λ i. (with_kept v (with_take v.kept (numbered (e i) node)), (e i, Some node) ∷ me.1)), known), λ ne. absurd (ne hit)),
+      ))
+      (λ miss. (v, keeps, tt, unchanged s (suc x) id v me.1 at h, λ x' is. (λ found. absurd (miss found), λ ne. refl)))
+
+  ends_take-suc : (slots id x : ℕ) (v : StoreView N) → 0 < times x v.kept.takes → x < slots
+      → Allows (IsStore k) slots id (v, (x, None) ∷ []) (suc x) (λ _. 4) (λ _. ended_take (step slots (suc x) 4 0 none) (v, (x, None) ∷ []) 4)
+  ends_take-suc slots id x v some_take within s h hs at fits =
+      let f = h.each id v at in let wide = h.wide in
+      let one = one-le-sum (taken_by x) s.views id v at in
+      let old = taken_done (get_or s.words (suc x) 0) (let a = h.taken x in omega arith) in
+      let homes = set s.homes x (some None) in
+      let now : get_or (set s.words (suc x) 4) (suc x) 0 ≡ 4 = get_or-set_same s.words (suc x) 4 0 (omega arith) in
+      let new : IsStore k (stepped s (suc x) 4 id ((x, None) ∷ []) v gives) = moved s h id x 4 v v homes h.node_of at (length-set s.homes x (some None)) refl refl
+      (λ y. dite (ℕ_discrete y x)
+      (λ e. subst (λ z. is_putting (get_or (set s.words (suc x) 4) (suc z) 0) + putting_by z v ≡ is_putting (get_or s.words (suc z) 0) + putting_by z v) (sym e) (let a = ap is_putting now in let b = old.0 in omega arith))
+      (λ ne. let a = ap is_putting (word_else s.words x y 4 ne) in omega arith))
+      (λ y. dite (ℕ_discrete y x)
+      (λ e. subst (λ z. is_put (get_or (set s.words (suc x) 4) (suc z) 0) + put_by z v ≡ is_put (get_or s.words (suc z) 0) + put_by z v) (sym e) (let a = ap is_put now in let b = old.1 in omega arith))
+      (λ ne. let a = ap is_put (word_else s.words x y 4 ne) in omega arith))
+      (λ y. dite (ℕ_discrete y x)
+      (λ e. subst (λ z. is_taken (get_or (set s.words (suc x) 4) (suc z) 0) + taken_by z v ≡ is_taken (get_or s.words (suc z) 0) + taken_by z v) (sym e) (let a = ap is_taken now in let b = old.2 in omega arith))
+      (λ ne. let a = ap is_taken (word_else s.words x y 4 ne) in omega arith))
+      f
+      h.each
+      (λ y lt is. dite (ℕ_discrete y x)
+      (λ e. let a : get_or (set s.words (suc x) 4) (suc y) 0 ≡ 4 = ap (λ z. get_or (set s.words (suc x) 4) (suc z) 0) e ∙ now in absurd (omega arith))
+      (λ ne. set_else s.homes x y (some None) ne ∙ h.empty y (let l = length-set s.homes x (some None) in omega arith) (sym (word_else s.words x y 4 ne) ∙ is)))
+      (λ y is. dite (ℕ_discrete y x)
+      (λ e. let a : get_or (set s.words (suc x) 4) (suc y) 0 ≡ 4 = ap (λ z. get_or (set s.words (suc x) 4) (suc z) 0) e ∙ now in absurd (omega arith))
+      (λ ne. set_else s.homes x y (some None) ne ∙ h.full y (sym (word_else s.words x y 4 ne) ∙ is)))
+      in
+      (v, gives, tt, new, refl)
+
+  pub learns : (slots id : ℕ) (me : Me (Option N) (StoreView N)) → 0 < me.0.kept.parts → Allows (IsStore k) slots id me 0 (λ n. n) (learned (step slots 0 0 0 none) me)
+  learns slots id me some_part s h hs at fits = (me.0, keeps, tt, unchanged s 0 id me.0 me.1 at h, (refl, subst (λ z. KnowsStore z me.0.kept) hs (knows s h id me.0 at some_part)))
+
+  -- One part goes to a new seat
+  pub deals : (id seats parts : ℕ) → Splits (IsStore {N = N} k) id (giver seats (suc parts)) (given_one (giver seats (suc parts))) (one_part (giver seats (suc parts)))
+  deals id seats parts s h at =
+      let v : StoreView N = giver seats (suc parts) in let l : StoreView N = given_one v in let r : StoreView N = one_part v in
+      let f = h.each id v at in
+      let split : (g : StoreView N → ℕ) → g l + g r ≡ g v → sum_by g (set s.views id l ++ r ∷ []) ≡ sum_by g s.views = λ g is. let a = sum_set g s.views id v l at in let b = sum_by_push g (set s.views id l) r in omega arith in
+      let left : suc parts - 1 ≡ parts = omega arith in
+      record {
+        few = h.few;
+        wide = h.wide;
+        parts = split parts_by (omega arith) ∙ h.parts;
+        made = h.made ∙ sym (split count_drawn_by refl);
+        bounded = subst (λ z. get_or s.words 0 0 ≤ 2 ^ 32 + 100 * z) (sym (split over_by refl)) h.bounded;
+        drawn = λ x. split (drawn_by x) refl ∙ h.drawn x;
+        putting = λ x. split (putting_by x) refl ∙ h.putting x;
+        put = λ x. split (put_by x) refl ∙ h.put x;
+        taken = λ x. split (taken_by x) refl ∙ h.taken x;
+        node_of = h.node_of;
+        each = λ j u there. ⊎_elim
+            (λ t. each_set (FitsStore k (get_or s.words 0 0) h.node_of) s.views id l
+            (record {
+              idle = λ z. record { draws = refl; puts = refl; takes = refl; putting = refl };
+              whole = λ z. f.whole (omega arith);
+              front = f.front;
+              own = λ x. omega arith;
+              over = omega arith;
+              puts = λ p c. let lt = c.1 in absurd (omega arith);
+              takes = λ p c. let lt = c.1 in absurd (omega arith);
+            })
+            h.each j u t)
+            (λ t. subst (FitsStore k (get_or s.words 0 0) h.node_of) t (record {
+              idle = λ z. record { draws = refl; puts = refl; takes = refl; putting = refl };
+              whole = λ z. f.whole (omega arith);
+              front = omega arith;
+              own = λ x. omega arith;
+              over = omega arith;
+              puts = λ p c. let lt = c.1 in absurd (omega arith);
+              takes = λ p c. let lt = c.1 in absurd (omega arith);
+            }))
+            (at_snoc (set s.views id l) r u j there);
+        empty = h.empty;
+        full = h.full;
+      }
+
+  -- A seat takes in another, which is spent
+  pub joins : (id other : ℕ) (v w : StoreView N) → 0 < v.kept.parts → w.putting ≡ None → Joins (IsStore k) id v other w (views_joined v w) spent_view
+  joins id other v w some_part quiet s h at apart to =
+      let b : StoreView N = views_joined v w in let spent : StoreView N = spent_view in
+      let before : get_elem? s.views other ≡ some w = sym (set_else s.views id other b apart) ∙ to in
+      let f = h.each id v at in let g = h.each other w before in
+      let both : (m : StoreView N → ℕ) → m b ≡ m v + m w → m spent ≡ 0 → sum_by m (set (set s.views id b) other spent) ≡ sum_by m s.views = λ m is none.
+      let x = sum_set m s.views id v b at in let y = sum_set m (set s.views id b) other w spent to in omega arith in
+      let of_draws : (x : ℕ) → drawn_by x b ≡ drawn_by x v + drawn_by x w = λ x. times_drawn-append x v.kept.draws w.kept.draws in
+      let of_puts : (x : ℕ) → put_by x b ≡ put_by x v + put_by x w = λ x. times-append x v.kept.puts w.kept.puts in
+      let of_takes : (x : ℕ) → taken_by x b ≡ taken_by x v + taken_by x w = λ x. times-append x v.kept.takes w.kept.takes in
+      let of_putting : (x : ℕ) → putting_by x b ≡ putting_by x v + putting_by x w = λ x. let q = ap (times_in x) quiet in omega arith in
+      let of_counts : count_drawn_by b ≡ count_drawn_by v + count_drawn_by w = sum_by-append (λ (d : Draw). d.count) v.kept.draws w.kept.draws in
+      let of_over : over_by b ≡ over_by v + over_by w = sum_by-append (λ (d : Draw). one_if (not d.within)) v.kept.draws w.kept.draws in
+      record {
+        few = h.few;
+        wide = h.wide;
+        parts = both parts_by refl refl ∙ h.parts;
+        made = h.made ∙ sym (both count_drawn_by of_counts refl);
+        bounded = subst (λ z. get_or s.words 0 0 ≤ 2 ^ 32 + 100 * z) (sym (both over_by of_over refl)) h.bounded;
+        drawn = λ x. both (drawn_by x) (of_draws x) refl ∙ h.drawn x;
+        putting = λ x. both (putting_by x) (of_putting x) refl ∙ h.putting x;
+        put = λ x. both (put_by x) (of_puts x) refl ∙ h.put x;
+        taken = λ x. both (taken_by x) (of_takes x) refl ∙ h.taken x;
+        node_of = h.node_of;
+        each = each_set (FitsStore k (get_or s.words 0 0) h.node_of) (set s.views id b) other spent
+            (record {
+              idle = λ z. record { draws = refl; puts = refl; takes = refl; putting = refl };
+              whole = λ z. absurd (omega arith);
+              front = omega arith;
+              own = λ x. omega arith;
+              over = omega arith;
+              puts = λ p c. let lt = c.1 in absurd (omega arith);
+              takes = λ p c. let lt = c.1 in absurd (omega arith);
+            })
+            (each_set (FitsStore k (get_or s.words 0 0) h.node_of) s.views id b
+            (record {
+              idle = λ z. absurd (omega arith);
+              whole = λ z. f.whole some_part;
+              front = (let x = f.front in let y = g.front in omega arith);
+              own = λ x. let x1 = f.own x in let x2 = g.own x in let x3 = of_draws x in let x4 = of_puts x in let x5 = of_putting x in omega arith;
+              over = (let x = f.over in let y = g.over in omega arith);
+              puts = λ p c. ⊎_elim (f.puts p) (g.puts p) (Contains-append_cases v.kept.puts w.kept.puts p c);
+              takes = λ p c. ⊎_elim (f.takes p) (g.takes p) (Contains-append_cases v.kept.takes w.kept.takes p c);
+            })
+            h.each);
+        empty = h.empty;
+        full = h.full;
+      }
+
+  -- The rule holds where no number is drawn and one seat has all parts
+  pub opens : (n : ℕ) → k ≤ 16 → IsStore {N = N} k (opening (replicate (suc n) 0) (replicate n None) (giver k k))
+  opens n few =
+      let zero_word : (j : ℕ) → get_or {A = ℕ} (replicate (suc n) 0) j 0 ≡ 0 = λ j. get_or-replicate_zero (suc n) j in
+      record {
+        few = few;
+        wide = length-replicate (suc n) 0 ∙ ap suc (sym (length-nones N n));
+        parts = omega arith;
+        made = zero_word 0;
+        bounded = (let z = zero_word 0 in omega arith);
+        drawn = λ x. sym (ap (λ z. one_if (ltb x z)) (zero_word 0) ∙ ap one_if (le-ltb x 0 (omega arith)));
+        putting = λ x. sym (ap is_putting (zero_word (suc x)));
+        put = λ x. sym (ap is_put (zero_word (suc x)));
+        taken = λ x. sym (ap is_taken (zero_word (suc x)));
+        node_of = λ x. None;
+        each = λ j u there. subst (FitsStore k (get_or (replicate (suc n) 0) 0 0) (λ x. None)) (one_view (giver k k) j u there) (record {
+          idle = λ z. record { draws = refl; puts = refl; takes = refl; putting = refl };
+          whole = λ z. refl;
+          front = omega arith;
+          own = λ x. omega arith;
+          over = omega arith;
+          puts = λ p c. let lt = c.1 in absurd (omega arith);
+          takes = λ p c. let lt = c.1 in absurd (omega arith);
+        });
+        empty = λ x lt is. none_home n x (let l = length-nones N n in omega arith);
+        full = λ x is. absurd (apart (sym (zero_word (suc x)) ∙ is));
+      }
+
+  -- the same with the number's word as it is computed
+  pub begins_put : (slots id x : ℕ) (me : Me (Option N) (StoreView N)) → 0 < me.0.kept.parts → me.0.putting ≡ None → x < slots → IsFree me.0.kept x
+      → Allows (IsStore k) slots id me (x + 1) (λ n. either (eqb n 0) 1 n) (began_put (step slots (x + 1) 0 1 none) me)
+  begins_put slots id x me a b c d = subst (λ (i : ℕ). Allows (IsStore k) slots id me i (λ n. either (eqb n 0) 1 n) (began_put (step slots i 0 1 none) me)) (next x) (begins_put-suc slots id x me a b c d)
+
+  pub ends_put : (slots id x : ℕ) (me : Me (Option N) (StoreView N)) (v : StoreView N) (node : N) → 0 < v.kept.parts → v.putting ≡ Some x → x < slots → me ≡ (v, (x, Some node) ∷ [])
+      → Allows (IsStore k) slots id me (x + 1) (λ _. 2) (λ _. ended_put (step slots (x + 1) 2 0 none) me 2)
+  ends_put slots id x me v node a b c is = subst (λ (z : ℕ × Me (Option N) (StoreView N)). Allows (IsStore k) slots id z.1 z.0 (λ _. 2) (λ _. ended_put (step slots z.0 2 0 none) z.1 2)) (λ i. (next x i, sym is i)) (ends_put-suc slots id x v node a b c)
+
+  pub tries_take : (slots id x : ℕ) (me : Me (Option N) (StoreView N)) → 0 < me.0.kept.parts → x < slots
+      → Allows (IsStore k) slots id me (x + 1) (λ n. either (eqb n 2) 3 n) (tried_take (step slots (x + 1) 2 3 none) me)
+  tries_take slots id x me a b = subst (λ (i : ℕ). Allows (IsStore k) slots id me i (λ n. either (eqb n 2) 3 n) (tried_take (step slots i 2 3 none) me)) (next x) (tries_take-suc slots id x me a b)
+
+  pub ends_take : (slots id x : ℕ) (me : Me (Option N) (StoreView N)) (v : StoreView N) → 0 < times x v.kept.takes → x < slots → me ≡ (v, (x, None) ∷ [])
+      → Allows (IsStore k) slots id me (x + 1) (λ _. 4) (λ _. ended_take (step slots (x + 1) 4 0 none) me 4)
+  ends_take slots id x me v a b is = subst (λ (z : ℕ × Me (Option N) (StoreView N)). Allows (IsStore k) slots id z.1 z.0 (λ _. 4) (λ _. ended_take (step slots z.0 4 0 none) z.1 4)) (λ i. (next x i, sym is i)) (ends_take-suc slots id x v a b)

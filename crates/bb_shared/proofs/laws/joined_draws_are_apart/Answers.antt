@@ -1,0 +1,5 @@
+use Rattle.bb_shared.proofs.Draws.{apart}
+use Rattle.bb_shared.proofs.laws.joined_draws_are_apart.Goals as goal
+
+pub returns : goal.returns
+returns c = apart

@@ -1,0 +1,5 @@
+use Rattle.bb_shared.proofs.Draws.{cover}
+use Rattle.bb_shared.proofs.laws.joined_draws_cover.Goals as goal
+
+pub returns : goal.returns
+returns c = cover
