@@ -9,3 +9,5 @@ pub mod Counts
 pub mod Searches
 pub mod Bounds
 pub mod OnePass
+pub mod Numbers
+pub mod Several

@@ -1,6 +1,7 @@
--- What is a member of a list after one element more, a filter or a map, and of a multiset after an entry was added.
-use Rattle.std.proofs.Common.{◌≡◌, ◌<◌, Bool, true, zero, suc, List, [], ◌∷◌, map, refl, ap, subst, inl, inr, arith, get_or}
-use Rattle.std.specs.Prelude.{All, Contains, nat_le, filter, ◌⊎◌}
+-- What is a member of a list after one element more, of two lists together, of a filter or a map, and of a multiset after
+-- an entry was added.
+use Rattle.std.proofs.Common.{◌≡◌, ℕ, ◌<◌, Bool, true, zero, suc, List, [], ◌∷◌, ◌++◌, map, Some, refl, ap, subst, inl, inr, arith, get_or}
+use Rattle.std.specs.Prelude.{All, Contains, nat_le, filter, ◌⊎◌, slice_get}
 use Rattle.pq_words.specs.declared.entries.Entry.{Entry}
 use Rattle.pq_words.specs.Entries.{raw_of}
 use Rattle.pq_model.specs.Multiset.{add}
@@ -18,6 +19,26 @@ Contains-there y x xs (k, lt, is) = (suc k, omega arith, is)
 pub Contains-cases : {X : Type 0} (y x : X) (xs : List X) → Contains (y ∷ xs) x → (y ≡ x) ⊎ Contains xs x
 Contains-cases y x xs (zero, lt, is) = inl is
 Contains-cases y x xs (suc k, lt, is) = inr (k, omega arith, is)
+
+pub Contains-left : {X : Type 0} (x : X) (xs ys : List X) → Contains xs x → Contains (xs ++ ys) x
+Contains-left x [] ys there = absurd (none_in_empty x there)
+Contains-left x (y ∷ xs) ys there = elim (Contains-cases y x xs there) [ inl is ↦ subst (λ z. Contains (y ∷ (xs ++ ys)) z) is (Contains-here y (xs ++ ys)) | inr rest ↦ Contains-there y x (xs ++ ys) (Contains-left x xs ys rest) ]
+
+pub Contains-right : {X : Type 0} (x : X) (xs ys : List X) → Contains ys x → Contains (xs ++ ys) x
+Contains-right x [] ys there = there
+Contains-right x (y ∷ xs) ys there = Contains-there y x (xs ++ ys) (Contains-right x xs ys there)
+
+pub Contains-either : {X : Type 0} (x : X) (xs ys : List X) → Contains (xs ++ ys) x → Contains xs x ⊎ Contains ys x
+Contains-either x [] ys there = inr there
+Contains-either x (y ∷ xs) ys there = elim (Contains-cases y x (xs ++ ys) there) [
+  | inl is ↦ inl (subst (λ z. Contains (y ∷ xs) z) is (Contains-here y xs))
+  | inr rest ↦ elim (Contains-either x xs ys rest) [ inl a ↦ inl (Contains-there y x xs a) | inr b ↦ inr b ]
+]
+
+pub Contains-got : {X : Type 0} (xs : List X) (i : ℕ) (x : X) → slice_get xs i ≡ Some x → Contains xs x
+Contains-got [] i x is = absurd (cc)
+Contains-got (y ∷ xs) zero x is = let same : y ≡ x = cc in subst (λ z. Contains (y ∷ xs) z) same (Contains-here y xs)
+Contains-got (y ∷ xs) (suc i) x is = Contains-there y x xs (Contains-got xs i x is)
 
 pub Contains-map : {X Y : Type 0} (f : X → Y) (x : X) (xs : List X) → Contains xs x → Contains (map f xs) (f x)
 Contains-map f x [] there = absurd (none_in_empty x there)

@@ -1,11 +1,7 @@
 -- A cost beside the best so far, of which there may be none yet.
-use Rattle.std.specs.Prelude.{ℕ, ◌≤◌, Bool, true, nat_lt, Option, Some, None}
+use Rattle.std.specs.Prelude.{ℕ, ◌≤◌, Option, Some, None}
 use Rattle.pq_words.specs.Limits.{key_limit}
-
--- whether this cost is below the best so far
-abbrev pub is_better : ℕ → Option ℕ → Bool
-is_better v None = true
-is_better v (Some best) = nat_lt v best
+pub use Rattle.bb_shared.specs.Costs.{is_better}
 
 -- what the keys of nodes that are worth a look are below
 abbrev pub limit_of : Option ℕ → ℕ

@@ -6,5 +6,15 @@ pub mod Endings
 pub mod Outcomes
 pub mod Children
 pub mod Searching
+pub mod Numbers
+pub mod Laws
+pub mod OneSeat
 pub mod Underway
+pub mod Working
+pub mod Room
+pub mod LastCalls
+pub mod Together
+pub mod Turns
+pub mod Runs
+pub mod SearchOutcomes
 pub mod Picks

@@ -1,6 +1,8 @@
 -- The limits of a search.
-use Rattle.std.specs.Prelude.{ℕ}
-
+use Rattle.std.specs.Prelude.{ℕ, ◌^◌}
 -- the greatest node limit
-abbrev pub max_nodes : ℕ
-max_nodes = 1048560
+pub use Rattle.bb_shared.specs.Limits.{max_nodes}
+
+-- a worker that found nothing tries again while its pass has made fewer calls than this
+abbrev pub idle_calls : ℕ
+idle_calls = 2 ^ 24

@@ -1,16 +1,20 @@
 //! Branch and bound over a priority queue: the node of least bound first.
 #![tactic(auto)]
 
+mod alone;
 mod child;
 mod children;
 mod found;
+mod laws;
 mod limits;
+mod one_pass;
 mod outcome;
 mod plain;
 mod state;
 mod store;
 #[cfg(test)]
 mod tests;
+mod workers;
 
 pub use limits::MAX_NODES;
 pub use outcome::Outcome;

@@ -1,4 +1,6 @@
 //! The limits of a search.
 
-/// The greatest node limit: a search makes at most this many nodes.
-pub const MAX_NODES: u32 = 1_048_560;
+pub use bb_shared::MAX_NODES;
+
+/// A worker that found nothing tries again while its pass has made fewer calls than this.
+pub(crate) const IDLE_CALLS: u32 = 1 << 24;

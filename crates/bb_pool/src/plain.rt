@@ -6,10 +6,11 @@ ghost use Rattle.bb_problem.specs.Limits.{max_children};
 ghost use Rattle.bb_pool.specs.Limits.{max_nodes};
 ghost use Rattle.bb_pool.specs.Outcomes.{IsOutcome, IsStop, outcome_of, IfNodeLimit};
 ghost use Rattle.bb_pool.specs.Children.{StandAt};
-ghost use Rattle.bb_pool.specs.Underway.{IsUnderway, IsOver, IsTurn, best_outcome};
+ghost use Rattle.bb_pool.specs.Underway.{state_of, IsUnderway, IsOver, IsTurn, best_outcome};
 
 use crate::children::{bounds, is_below};
 use crate::found::Found;
+use crate::one_pass::OnePass;
 use crate::outcome::{Outcome, Stop};
 use crate::state::Search;
 use crate::store::Store;
@@ -46,6 +47,21 @@ pub fn search_plain<P: Problem>(
     // A node limit of the tree's size is never too low.
     ensures below_size { IfNodeLimit result (λ asked limit. limit < (P.meaning problem.now).tree_size) }
 {
+    search_turns(alloc, problem, pass, nodes)
+}
+
+/// The search of `search_plain`, over the pass of any queue of one seat: begins, takes turns and ends.
+pub(crate) fn search_turns<C: OnePass, P: Problem>(
+    alloc: Global,
+    problem: &P,
+    pass: C,
+    nodes: u32,
+) -> Outcome<P::Plan>
+    requires fresh { (C.seat pass).known ≡ fresh 1 }
+    requires nodes { (1 ≤ nodes) × (nodes ≤ max_nodes) }
+    ensures outcome { IsOutcome (P.meaning problem.now) nodes (C.seat pass).capacity result }
+    ensures below_size { IfNodeLimit result (λ asked limit. limit < (P.meaning problem.now).tree_size) }
+{
     needed_is_at_most_tree_size(problem);
     let mut search = match begin(alloc, problem, pass, nodes) {
         Ok(search) => search,
@@ -58,17 +74,18 @@ pub fn search_plain<P: Problem>(
 }
 
 // The search with the root in the queue, under the number 0.
-fn begin<P: Problem>(
+fn begin<C: OnePass, P: Problem>(
     alloc: Global,
     problem: &P,
-    pass: PlainPass,
+    pass: C,
     nodes: u32,
-) -> Result<Search<P::Node, P::Plan>, Stop>
-    requires fresh { pass.known ≡ fresh 1 }
+) -> Result<Search<C, P::Node, P::Plan>, Stop>
+    requires fresh { (C.seat pass).known ≡ fresh 1 }
     requires nodes { (1 ≤ nodes) × (nodes ≤ max_nodes) }
     ensures valid { P.is_problem problem.now }
-    ensures begun { IfOk result (λ search. IsUnderway (P.meaning problem.now) nodes pass.capacity search []) }
-    ensures stops { IfErr result (IsStop (P.meaning problem.now) nodes pass.capacity) }
+    ensures begun { IfOk result (λ search.
+        IsUnderway (P.meaning problem.now) nodes (C.seat pass).capacity (state_of C.seat search) []) }
+    ensures stops { IfErr result (IsStop (P.meaning problem.now) nodes (C.seat pass).capacity) }
 {
     let root = problem.root(alloc)?;
     let store = Store::with_room(alloc, nodes as usize)?;
@@ -84,34 +101,36 @@ fn begin<P: Problem>(
 }
 
 // Turn by turn, until no entry is left whose key is below the best cost.
-fn go_on<P: Problem>(
+fn go_on<C: OnePass, P: Problem>(
     alloc: Global,
     problem: &P,
-    search: &mut Search<P::Node, P::Plan>,
+    search: &mut Search<C, P::Node, P::Plan>,
     nodes: u32,
 ) -> Result<(), Stop>
     requires nodes { nodes ≤ max_nodes }
-    requires underway { IsUnderway (P.meaning problem.now) nodes search.old.pass.capacity search.old [] }
-    ensures over { IfOk result (λ _. IsOver (P.meaning problem.now) nodes search.old.pass.capacity
-        search.new.best search.new.pass.known) }
-    ensures stops { IfErr result (IsStop (P.meaning problem.now) nodes search.old.pass.capacity) }
+    requires underway { let state = state_of C.seat search.old in
+        IsUnderway (P.meaning problem.now) nodes state.queue.capacity state [] }
+    ensures over { IfOk result (λ _. IsOver (P.meaning problem.now) nodes (C.seat search.old.pass).capacity
+        search.new.best (C.seat search.new.pass).known) }
+    ensures stops { IfErr result (IsStop (P.meaning problem.now) nodes (C.seat search.old.pass).capacity) }
 {
     while let ControlFlow::Continue(()) = take_turn(alloc, problem, search, nodes)? {}
     Ok(())
 }
 
 // One turn: the least entry's node is expanded to a plan or to children.
-fn take_turn<P: Problem>(
+fn take_turn<C: OnePass, P: Problem>(
     alloc: Global,
     problem: &P,
-    search: &mut Search<P::Node, P::Plan>,
+    search: &mut Search<C, P::Node, P::Plan>,
     nodes: u32,
 ) -> Result<ControlFlow<()>, Stop>
     requires nodes { nodes ≤ max_nodes }
-    requires underway { IsUnderway (P.meaning problem.now) nodes search.old.pass.capacity search.old [] }
-    ensures turn { IfOk result (λ flow.
-        IsTurn (P.meaning problem.now) nodes search.old.pass.capacity search.old flow search.new) }
-    ensures stops { IfErr result (IsStop (P.meaning problem.now) nodes search.old.pass.capacity) }
+    requires underway { let state = state_of C.seat search.old in
+        IsUnderway (P.meaning problem.now) nodes state.queue.capacity state [] }
+    ensures turn { let before = state_of C.seat search.old in IfOk result (λ flow.
+        IsTurn (P.meaning problem.now) nodes before.queue.capacity before flow (state_of C.seat search.new)) }
+    ensures stops { IfErr result (IsStop (P.meaning problem.now) nodes (C.seat search.old.pass).capacity) }
 {
     left_rises();
     let Some(child) = search.take() else {
@@ -130,20 +149,22 @@ fn take_turn<P: Problem>(
 }
 
 // Puts the children whose bounds are below the best cost.
-fn branch<P: Problem>(
+fn branch<C: OnePass, P: Problem>(
     problem: &P,
-    search: &mut Search<P::Node, P::Plan>,
+    search: &mut Search<C, P::Node, P::Plan>,
     children: Vec<P::Node>,
     nodes: u32,
 ) -> Result<(), Stop>
     requires nodes { nodes ≤ max_nodes }
     requires few { length children.items ≤ max_children }
-    requires underway { (waiting : List (List ℕ)) × StandAt (P.meaning problem.now).stands children.items waiting
-        × IsUnderway (P.meaning problem.now) nodes search.old.pass.capacity search.old waiting }
-    ensures calls { IfOk result (λ _. length search.old.pass.known.calls ≤ length search.new.pass.known.calls) }
+    requires underway { let state = state_of C.seat search.old in
+        (waiting : List (List ℕ)) × StandAt (P.meaning problem.now).stands children.items waiting
+        × IsUnderway (P.meaning problem.now) nodes state.queue.capacity state waiting }
+    ensures calls { IfOk result (λ _.
+        length (C.seat search.old.pass).known.calls ≤ length (C.seat search.new.pass).known.calls) }
     ensures underway { IfOk result (λ _.
-        IsUnderway (P.meaning problem.now) nodes search.old.pass.capacity search.new []) }
-    ensures stops { IfErr result (IsStop (P.meaning problem.now) nodes search.old.pass.capacity) }
+        IsUnderway (P.meaning problem.now) nodes (C.seat search.old.pass).capacity (state_of C.seat search.new) []) }
+    ensures stops { IfErr result (IsStop (P.meaning problem.now) nodes (C.seat search.old.pass).capacity) }
 {
     let best = search.best_cost();
     let kept = bounds(problem, &children, best, &mut search.keys)?;
@@ -164,7 +185,7 @@ fn branch<P: Problem>(
 }
 
 // The outcome of a search that is over: its best plan.
-fn finish<N: Drop, P: Drop>(search: Search<N, P>) -> Outcome<P>
+fn finish<C: Drop, N: Drop, P: Drop>(search: Search<C, N, P>) -> Outcome<P>
     requires { IsSome search.best }
     ensures { result ≡ best_outcome search.best }
 {

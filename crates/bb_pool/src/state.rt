@@ -3,28 +3,29 @@
 ghost use Rattle.std.specs.Prelude.{◌≡◌, ℕ, ◌-◌, ◌<◌, ◌≤◌, length, All, IfOk, IfErr, MatchOption};
 ghost use Rattle.pq_words.specs.Limits.{key_limit, id_limit};
 ghost use Rattle.pq_api.specs.Limits.{call_limit};
-ghost use Rattle.pq_api.specs.Plain.{held};
 
 use crate::child::Child;
 use crate::found::Found;
+use crate::one_pass::OnePass;
 use crate::outcome::Stop;
 use crate::store::Store;
-use pq_api::{Below, Inserted, PlainPass, one_seat_has_made_all};
+use pq_api::{Below, Inserted, full_with_one_seat, one_seat_has_made_all, one_seat_steps};
 use pq_words::{Entry, KEY_LIMIT};
 
-/// A search with one caller: the queue's pass, the nodes made so far by number, each until it is taken, the bounds
-/// of the branch at hand, and the best plan so far.
+/// A search with one caller: the pass of a queue of one seat, the nodes made so far by number, each until it is
+/// taken, the bounds of the branch at hand, and the best plan so far.
 #[derive(Drop)]
-pub(crate) struct Search<N, P> {
-    pub(crate) pass: PlainPass,
+pub(crate) struct Search<C, N, P> {
+    pub(crate) pass: C,
     pub(crate) store: Store<N>,
     pub(crate) keys: Vec<u32>,
     pub(crate) best: Option<Found<P>>,
 }
 
-impl<N: Drop, P: Drop> Search<N, P> {
+impl<C: OnePass, N: Drop, P: Drop> Search<C, N, P> {
     ghost use Rattle.bb_pool.specs.Costs.{limit_of};
-    ghost use Rattle.bb_pool.specs.Underway.{cost_so_far, IsPut, IsNotPut, IsStored, IsTaken, IsSpent};
+    ghost use Rattle.bb_pool.specs.OneSeat.{held};
+    ghost use Rattle.bb_pool.specs.Underway.{state_of, cost_so_far, IsPut, IsNotPut, IsStored, IsTaken, IsSpent};
 
     /// The cost of the best plan so far.
     pub(crate) fn best_cost(&self) -> Option<u32>
@@ -51,17 +52,22 @@ impl<N: Drop, P: Drop> Search<N, P> {
     pub(crate) fn put(&mut self, key: u32, node: N) -> Result<(), Stop>
         requires key { key < key_limit }
         requires few { length self.old.store < id_limit }
-        requires calls { length self.old.pass.known.calls < call_limit - 1 }
-        requires number { self.old.pass.known.number ≡ 1 }
-        ensures put { IfOk result (λ _. IsPut self.old key node self.new) }
-        ensures refused { IfErr result (IsNotPut self.old) }
+        requires calls { length (C.seat self.old.pass).known.calls < call_limit - 1 }
+        requires number { (C.seat self.old.pass).known.number ≡ 1 }
+        ensures put { IfOk result (λ _. IsPut (state_of C.seat self.old) key node (state_of C.seat self.new)) }
+        ensures keys { self.new.keys ≡ self.old.keys }
+        ensures refused { IfErr result (IsNotPut (state_of C.seat self.old)) }
     {
         let id = self.store.len() as u32;
         self.store.push(node)?;
         match self.pass.add(Entry { key, id }) {
-            Inserted::Done(_) => Ok(()),
+            Inserted::Done(_) => {
+                one_seat_steps();
+                Ok(())
+            }
             Inserted::Full(receipt) => {
                 one_seat_has_made_all();
+                full_with_one_seat();
                 Err(Stop::Full {
                     place: receipt.place,
                 })
@@ -72,17 +78,22 @@ impl<N: Drop, P: Drop> Search<N, P> {
     /// Removes the least entry and takes its node out of the store, where its key is below the best cost, and
     /// gives `None` where there is no such entry.
     pub(crate) fn take(&mut self) -> Option<Child<N>>
-        requires stored { All (IsStored self.old.store) (held self.old.pass) }
-        requires calls { length self.old.pass.known.calls < call_limit - 1 }
-        ensures { MatchOption result (IsSpent self.old self.new) (λ child. IsTaken self.old child self.new) }
+        requires stored { All (IsStored self.old.store) (held (C.seat self.old.pass)) }
+        requires calls { length (C.seat self.old.pass).known.calls < call_limit - 1 }
+        requires number { (C.seat self.old.pass).known.number ≡ 1 }
+        ensures { let before = state_of C.seat self.old in let now = state_of C.seat self.new in
+            MatchOption result (IsSpent before now) (λ child. IsTaken before child now) }
     {
+        one_seat_steps();
         let limit = self.limit();
         match self.pass.take_below(limit) {
             Below::Got(e, _) => {
                 let node = self.store.take(e.id as usize);
+                self.pass.has_taken();
                 Some(Child { key: e.key, node })
             }
-            Below::Empty(_) | Below::Above(_) => None,
+            Below::Empty(_) => None,
+            Below::Above(_) => None,
         }
     }
 }

@@ -1,4 +1,4 @@
-//! Tests of the search on a small problem.
+//! Tests of the searches with one caller on a small problem.
 
 ghost use Rattle.std.specs.Prelude.{◌≤◌};
 ghost use Rattle.pq_model.specs.Limits.{max_capacity};
@@ -6,11 +6,14 @@ ghost use Rattle.bb_pool.specs.Limits.{max_nodes};
 ghost use Rattle.bb_pool.specs.Picks.{meaning, lawful};
 
 use super::*;
+use crate::alone::search_alone;
 use bb_problem::{Problem, Step};
-use pq_api::{Open, PlainPass, PlainQueue, SharedQueue};
+use pq_api::{Gate, Open, PlainQueue, Point, SharedQueue};
 use pq_io::NoMemory;
 use pq_model::MAX_CAPACITY;
 use std::alloc::Global;
+use std::sync::Wait;
+use std::sync::atomic::{AtomicU32, Ordering};
 use std::test::Fail;
 
 // A root with three leaves. Each plan costs 4.
@@ -62,25 +65,57 @@ fn searched(alloc: Global, capacity: u32, nodes: u32) -> Result<String, NoMemory
     Ok(format!(in alloc; "{outcome:?}")?)
 }
 
+// How the search with one pass ends over the same queue, and how many nodes it told the gate.
+fn searched_alone<R: Wait + Sync>(
+    rt: &R,
+    alloc: Global,
+    capacity: u32,
+    nodes: u32,
+) -> Result<(String, u32), NoMemory>
+    requires capacity { (1 ≤ capacity) × (capacity ≤ max_capacity) }
+    requires nodes { (1 ≤ nodes) × (nodes ≤ max_nodes) }
+{
+    let (queue, mut passes) = PlainQueue::open(alloc, capacity, 1, Open)?;
+    let told = Told(AtomicU32::new(0));
+    let outcome = match passes.pop() {
+        Some(pass) => search_alone(rt, alloc, &Picks, queue, pass, nodes, &told),
+        None => Outcome::NoMemory,
+    };
+    Ok((
+        format!(in alloc; "{outcome:?}")?,
+        told.0.load(Ordering::SeqCst),
+    ))
+}
+
+// Counts the nodes that a search has taken.
+#[derive(Drop)]
+struct Told(AtomicU32);
+
+impl Gate for Told {
+    fn at<R: Wait + Sync>(&self, _rt: &R, point: Point) {
+        if point == Point::WorkerNode {
+            self.0.fetch_add(1, Ordering::SeqCst);
+        }
+    }
+}
+
 const BEST: &str = "Best { plan: 9, cost: 4 }";
 
-// The root and its three leaves are four nodes, and the three leaves are open at once.
+// The root and its three leaves are four nodes, and the three leaves are open at once. Where the search comes to the
+// leaves, it takes one of them: the others are not below its plan's cost.
 #[test]
-fn ends_as_said_on_both_sides_of_each_limit(rt: HostRuntime) -> Result<(), Fail> {
-    assert_eq!(rt; searched(rt.alloc(), 3, 4)?.as_str(), BEST);
-    assert_eq!(rt;
-        searched(rt.alloc(), MAX_CAPACITY, MAX_NODES)?.as_str(),
-        BEST
-    );
-    assert_eq!(rt;
-        searched(rt.alloc(), 4, 3)?.as_str(),
-        "NodeLimit { asked: 4, limit: 3 }"
-    );
-    assert_eq!(rt;
-        searched(rt.alloc(), 1, 1)?.as_str(),
-        "NodeLimit { asked: 4, limit: 1 }"
-    );
-    assert_eq!(rt; searched(rt.alloc(), 2, 4)?.as_str(), "Full { place: 4 }");
-    assert_eq!(rt; searched(rt.alloc(), 1, 4)?.as_str(), "Full { place: 3 }");
+fn both_end_as_said_on_both_sides_of_each_limit(rt: HostRuntime) -> Result<(), Fail> {
+    for (capacity, nodes, wanted, taken) in [
+        (3, 4, BEST, 2),
+        (MAX_CAPACITY, MAX_NODES, BEST, 2),
+        (4, 3, "NodeLimit { asked: 4, limit: 3 }", 1),
+        (1, 1, "NodeLimit { asked: 4, limit: 1 }", 1),
+        (2, 4, "Full { place: 4 }", 1),
+        (1, 4, "Full { place: 3 }", 1),
+    ] {
+        assert_eq!(rt; searched(rt.alloc(), capacity, nodes)?.as_str(), wanted);
+        let (alone, told) = searched_alone(&rt, rt.alloc(), capacity, nodes)?;
+        assert_eq!(rt; (alone.as_str(), told), (wanted, taken));
+    }
     Ok(())
 }

@@ -1,74 +1,135 @@
 -- What a call of the queue did, said of a search's fields.
-use Rattle.std.proofs.Common.{◌≡◌, ℕ, ◌+◌, ◌<◌, ◌≤◌, List, [], ◌∷◌, ◌++◌, length, get_or, set, Some, None, Option, refl, sym, ap, ◌∙◌, subst, arith}
+use Rattle.std.proofs.Common.{◌≡◌, ℕ, ◌+◌, ◌<◌, ◌≤◌, List, [], ◌∷◌, ◌++◌, length, set, Some, None, refl, sym, ap, ◌∙◌, subst, arith}
 use Rattle.std.specs.Prelude.{slice_get, All, IfSome, IsSomeAnd}
-use Rattle.std.proofs.lemmas.Option.{get_or_from_slice_get}
-use Rattle.std.proofs.lemmas.List.{length-append}
+use Rattle.std.proofs.Math.Seq.{take-append_seam}
+use Rattle.std.proofs.lemmas.List.{length-append, map-append}
 use Rattle.std.proofs.lemmas.List.Elements.{All-head}
 use Rattle.pq_words.specs.declared.entries.Entry.{Entry}
 use Rattle.pq_model.specs.declared.marks.Act.{Act}
 use Rattle.pq_model.specs.declared.marks.Act.TheVariants.{Insert, RemoveBelow}
 use Rattle.pq_model.specs.declared.marks.Reply.{Reply}
-use Rattle.pq_model.specs.declared.marks.Reply.TheVariants.{Done, Got}
+use Rattle.pq_model.specs.declared.marks.Reply.TheVariants.{Done, Got, Empty, Full, Above}
+use Rattle.pq_model.specs.declared.marks.Mark.{Mark}
+use Rattle.pq_model.specs.declared.passes.Call.{Call}
 use Rattle.pq_model.specs.declared.passes.Known.{Known}
-use Rattle.pq_model.specs.Multiset.{add, least, without_least}
+use Rattle.pq_model.specs.Multiset.{least}
+use Rattle.pq_model.specs.History.{mark, IsLegal, left}
 use Rattle.pq_model.specs.Passes.{call, Knows, fresh, with_call}
 use Rattle.pq_model.proofs.Multisets.{with_least}
-use Rattle.pq_api.specs.Plain.{held, marks_of}
-use Rattle.pq_model.specs.History.{left}
+use Rattle.pq_api.specs.Plain.{marks_of}
+use Rattle.pq_api.specs.Laws.{OneSeatHasMadeAll, OneSeatSteps, FullWithOneSeat}
 use Rattle.bb_problem.specs.Meaning.{Meaning, IsLawful}
 use Rattle.bb_pool.specs.declared.child.Child.{Child}
-use Rattle.bb_pool.specs.declared.state.Search.{Search}
+use Rattle.bb_pool.specs.OneSeat.{held}
 use Rattle.bb_pool.specs.Costs.{limit_of}
 use Rattle.bb_pool.specs.Endings.{EndsAt}
-use Rattle.bb_pool.specs.Underway.{cost_so_far, IsFound, IsUnderway, IsPut, IsStored, IsTaken, IsSpent}
+use Rattle.bb_pool.specs.Underway.{State, cost_so_far, IsFound, IsUnderway, IsPut, IsTaken, IsSpent}
+use Rattle.bb_pool.proofs.Names.{slice_get-new}
 use Rattle.bb_pool.proofs.Searches.{root_waits}
 use Rattle.bb_pool.proofs.OnePass.Turns.{same_search}
 
 one_more : (before now : Known) (place : ℕ) (act : Act) (reply : Reply) → now ≡ with_call before place act reply → length now.calls ≡ length before.calls + 1
 one_more before now place act reply is = ap (λ (k : Known). length k.calls) is ∙ length-append before.calls (call place act reply ∷ [])
 
-pub put_made : {N P : Type 0} {before now : Search N P} {key : ℕ} {node : N} (e : Entry) (place : ℕ) → length (held before.pass) < before.pass.capacity → now.pass.known ≡ with_call before.pass.known place (Insert e) Done → held now.pass ≡ add e (held before.pass) → e.key ≡ key → e.id ≡ length before.store
-    → now.store ≡ before.store ++ Some node ∷ [] → now.pass.capacity ≡ before.pass.capacity → now.best ≡ before.best → now.keys ≡ before.keys → IsPut before key node now
-put_made {before} {now} e place room called added same id stored capacity best keys = record {
-  entry = e;
-  key_is = same;
-  id = id;
-  stored = stored;
-  room = room;
-  added = added;
-  calls = one_more before.pass.known now.pass.known place (Insert e) Done called;
-  number = ap (λ (k : Known). k.number) called;
-  capacity = capacity;
-  best = best;
-  keys = keys;
+pub put_made : {N P : Type 0} {before now : State N P} {key : ℕ} {node : N} (e : Entry) (place : ℕ) → OneSeatSteps → before.queue.known.number ≡ 1
+    → now.queue.known ≡ with_call before.queue.known place (Insert e) Done → Knows 1 before.queue.capacity now.queue.known → e.key ≡ key → e.id ≡ length before.store
+    → now.store ≡ before.store ++ Some node ∷ [] → now.queue.capacity ≡ before.queue.capacity → now.best ≡ before.best → IsPut before key node now
+put_made {before} {now} e place steps one called knows same id stored capacity best =
+    let step = steps before.queue.capacity place before.queue.known now.queue.known (Insert e) Done one called knows in record {
+      entry = e;
+      key_is = same;
+      id = id;
+      stored = stored;
+      room = step.0;
+      added = step.1;
+      calls = one_more before.queue.known now.queue.known place (Insert e) Done called;
+      number = ap (λ (k : Known). k.number) called;
+      capacity = capacity;
+      best = best;
+    }
+
+-- the queue was full
+pub full_made : FullWithOneSeat → OneSeatHasMadeAll → (capacity place : ℕ) (before now : Known) (e : Entry) → before.number ≡ 1 → now ≡ with_call before place (Insert e) Full → Knows 1 capacity now
+    → length (left (marks_of before)) ≡ capacity
+full_made full alone capacity place before now e one called (history, w) =
+    let marks : List Mark = marks_of before in let last : Mark = mark before.number (Insert e) Full in
+    let whole : history ≡ marks_of now = alone capacity now history w.legal w.holds (ap (λ (k : Known). k.number) called ∙ one) in
+    let more : history ≡ marks ++ last ∷ [] = whole ∙ ap marks_of called ∙ map-append (λ (c : Call). mark before.number c.act c.reply) before.calls (call place (Insert e) Full ∷ []) in
+    let legal : IsLegal 1 capacity (marks ++ last ∷ []) = subst (IsLegal 1 capacity) more w.legal in
+    let size = (full capacity (length marks) before.number (marks ++ last ∷ []) e Full legal (slice_get-new marks last)).0 refl in
+    ap (λ (h : List Mark). length (left h)) (sym (take-append_seam marks (last ∷ []))) ∙ size
+
+pub take_made : {N P : Type 0} {before now : State N P} {child : Child N} (e : Entry) (place limit : ℕ) → OneSeatSteps → before.queue.known.number ≡ 1
+    → limit ≡ limit_of (cost_so_far before.best) → e.key < limit → now.queue.known ≡ with_call before.queue.known place (RemoveBelow limit) (Got e) → Knows 1 before.queue.capacity now.queue.known
+    → child.key ≡ e.key → slice_get before.store e.id ≡ Some (Some child.node) → now.store ≡ set before.store e.id None → now.queue.capacity ≡ before.queue.capacity → now.best ≡ before.best → IsTaken before child now
+take_made {before} {now} e place limit steps one is below called knows key node emptied capacity best =
+    let step = steps before.queue.capacity place before.queue.known now.queue.known (RemoveBelow limit) (Got e) one called knows in record {
+      entry = e;
+      key = key;
+      better = omega arith;
+      first = with_least (held before.queue) e step.0.0 ∙ ap (λ (l : List Entry). e ∷ l) (sym step.1);
+      node = node;
+      emptied = emptied;
+      calls = one_more before.queue.known now.queue.known place (RemoveBelow limit) (Got e) called;
+      number = ap (λ (k : Known). k.number) called;
+      capacity = capacity;
+      best = best;
+    }
+
+-- the entry that was removed is the least
+pub got_least : (capacity place limit : ℕ) (before now : Known) (e : Entry) → OneSeatSteps → before.number ≡ 1 → now ≡ with_call before place (RemoveBelow limit) (Got e) → Knows 1 capacity now
+    → least (left (marks_of before)) ≡ Some e
+got_least capacity place limit before now e steps one called knows = (steps capacity place before now (RemoveBelow limit) (Got e) one called knows).0.0
+
+-- nothing is left, or nothing below the limit
+high_where_empty : (limit : ℕ) (m : List Entry) → m ≡ [] → IfSome (least m) (λ (e : Entry). limit ≤ e.key)
+high_where_empty limit [] is = tt
+high_where_empty limit (x ∷ xs) is = absurd (cc)
+
+high_where_above : (limit : ℕ) (m : List Entry) → IsSomeAnd (least m) (λ (e : Entry). limit ≤ e.key) → IfSome (least m) (λ (e : Entry). limit ≤ e.key)
+high_where_above limit [] is = absurd is
+high_where_above limit (x ∷ xs) is = is
+
+ended_at : (capacity place limit : ℕ) (before now : Known) (reply : Reply) → before.number ≡ 1 → now ≡ with_call before place (RemoveBelow limit) reply → Knows 1 capacity now
+    → left (marks_of now) ≡ left (marks_of before) → IfSome (least (left (marks_of before))) (λ (e : Entry). limit ≤ e.key) → EndsAt capacity limit now
+ended_at capacity place limit before now reply one called knows same high = record {
+  number = ap (λ (k : Known). k.number) called ∙ one;
+  knows = knows;
+  asked = (before.calls, place, reply, ap (λ (k : Known). k.calls) called);
+  at_least = subst (λ (m : List Entry). IfSome (least m) (λ (e : Entry). limit ≤ e.key)) (sym same) high;
 }
 
-pub take_made : {N P : Type 0} {before now : Search N P} {child : Child N} (e : Entry) (place limit : ℕ) → limit ≡ limit_of (cost_so_far before.best) → e.key < limit → now.pass.known ≡ with_call before.pass.known place (RemoveBelow limit) (Got e) → least (held before.pass) ≡ Some e → held now.pass ≡ without_least (held before.pass) → child.key ≡ e.key
-    → slice_get before.store e.id ≡ Some (Some child.node) → now.store ≡ set before.store e.id None → now.pass.capacity ≡ before.pass.capacity → now.best ≡ before.best → IsTaken before child now
-take_made {before} {now} e place limit is below called first rest key node emptied capacity best = record {
-  entry = e;
-  key = key;
-  better = omega arith;
-  first = with_least (held before.pass) e first ∙ ap (λ (l : List Entry). e ∷ l) (sym rest);
-  node = node;
-  emptied = emptied;
-  calls = one_more before.pass.known now.pass.known place (RemoveBelow limit) (Got e) called;
-  number = ap (λ (k : Known). k.number) called;
-  capacity = capacity;
-  best = best;
-}
+pub empty_made : {N P : Type 0} {before now : State N P} (place limit : ℕ) → OneSeatSteps → before.queue.known.number ≡ 1 → limit ≡ limit_of (cost_so_far before.best)
+    → now.queue.known ≡ with_call before.queue.known place (RemoveBelow limit) Empty → Knows 1 before.queue.capacity now.queue.known → now.best ≡ before.best → IsSpent before now
+empty_made {before} {now} place limit steps one is called knows best =
+    let step = steps before.queue.capacity place before.queue.known now.queue.known (RemoveBelow limit) Empty one called knows in record {
+      same = step.1;
+      ended = subst (λ (l : ℕ). EndsAt before.queue.capacity l now.queue.known) is
+          (ended_at before.queue.capacity place limit before.queue.known now.queue.known Empty one called knows step.1 (high_where_empty limit (held before.queue) step.0));
+      best = best;
+    }
+
+pub above_made : {N P : Type 0} {before now : State N P} (place limit : ℕ) → OneSeatSteps → before.queue.known.number ≡ 1 → limit ≡ limit_of (cost_so_far before.best)
+    → now.queue.known ≡ with_call before.queue.known place (RemoveBelow limit) Above → Knows 1 before.queue.capacity now.queue.known → now.best ≡ before.best → IsSpent before now
+above_made {before} {now} place limit steps one is called knows best =
+    let step = steps before.queue.capacity place before.queue.known now.queue.known (RemoveBelow limit) Above one called knows in record {
+      same = step.1;
+      ended = subst (λ (l : ℕ). EndsAt before.queue.capacity l now.queue.known) is
+          (ended_at before.queue.capacity place limit before.queue.known now.queue.known Above one called knows step.1 (high_where_above limit (held before.queue) step.0));
+      best = best;
+    }
 
 -- a search whose queue has had no call yet, with the root still to be put
-pub begun : {N P : Type 0} {m : Meaning N P} (nodes : ℕ) (before : Search N P) → IsLawful m → before.pass.known ≡ fresh 1 → before.store ≡ [] → before.best ≡ None
-    → IsUnderway m nodes before.pass.capacity before ([] ∷ [])
+pub begun : {N P : Type 0} {m : Meaning N P} (nodes : ℕ) (before : State N P) → IsLawful m → before.queue.known ≡ fresh 1 → before.store ≡ [] → before.best ≡ None
+    → IsUnderway m nodes before.queue.capacity before ([] ∷ [])
 begun {m} nodes before laws is empty none =
-    let nothing : held before.pass ≡ [] = ap (λ (k : Known). left (marks_of k)) is in
-    let calls : before.pass.known.calls ≡ [] = ap (λ (k : Known). k.calls) is in
-    let length_calls : length before.pass.known.calls ≡ 0 = ap length calls in let length_held : length (held before.pass) ≡ 0 = ap length nothing in let length_store : length before.store ≡ 0 = ap length empty in
+    let nothing : held before.queue ≡ [] = ap (λ (k : Known). left (marks_of k)) is in
+    let calls : before.queue.known.calls ≡ [] = ap (λ (k : Known). k.calls) is in
+    let length_calls : length before.queue.known.calls ≡ 0 = ap length calls in let length_held : length (held before.queue) ≡ 0 = ap length nothing in let length_store : length before.store ≡ 0 = ap length empty in
     record {
       lawful = laws;
       names = [];
-      searching = same_search (sym nothing) (sym empty) (ap cost_so_far (sym none)) (root_waits m before.pass.capacity);
+      searching = same_search (sym nothing) (sym empty) (ap cost_so_far (sym none)) (root_waits m before.queue.capacity);
       found = subst (IsFound m) (sym none) tt;
       calls = omega arith;
       number = ap (λ (k : Known). k.number) is;

@@ -1,6 +1,6 @@
 -- The turns of a search with one caller, by its fields.
 use Rattle.std.proofs.Common.{◌≡◌, ℕ, ◌+◌, ◌<◌, ◌≤◌, true, false, List, [], ◌∷◌, ◌++◌, length, map, set, Some, None, Option, refl, sym, ap, ◌∙◌, subst, inl, inr, arith}
-use Rattle.std.specs.Prelude.{All, IsTrue, IsSome, IfSome}
+use Rattle.std.specs.Prelude.{All, IsTrue, IfSome}
 use Rattle.std.proofs.lemmas.Bool.{cases_lt}
 use Rattle.std.proofs.lemmas.List.{length-append, length-set}
 use Rattle.std.proofs.lemmas.List.Elements.{All-nil, All-cons, All-head, All-weaker}
@@ -10,7 +10,7 @@ use Rattle.pq_words.specs.Entries.{raw_of}
 use Rattle.pq_model.specs.declared.passes.Known.{Known}
 use Rattle.pq_model.specs.Multiset.{least, IsRising}
 use Rattle.pq_model.proofs.Multisets.{length-add}
-use Rattle.pq_api.specs.Plain.{held}
+use Rattle.bb_pool.specs.OneSeat.{held}
 use Rattle.bb_problem.specs.Limits.{size_limit}
 use Rattle.bb_problem.specs.Tree.{below, needed}
 use Rattle.bb_problem.specs.Meaning.{Meaning, IsLawful}
@@ -23,14 +23,13 @@ use Rattle.bb_pool.specs.declared.outcome.Stop.{Stop}
 use Rattle.bb_pool.specs.declared.outcome.Stop.TheVariants.{NodeLimit, Full, NoMemory}
 use Rattle.bb_pool.specs.declared.child.Child.{Child}
 use Rattle.bb_pool.specs.declared.found.Found.{Found}
-use Rattle.bb_pool.specs.declared.state.Search.{Search}
 use Rattle.bb_pool.specs.Limits.{max_nodes}
 use Rattle.bb_pool.specs.Costs.{is_better, limit_of, IsAtLeast}
 use Rattle.bb_pool.specs.Endings.{EndsAt}
 use Rattle.bb_pool.specs.Outcomes.{IsStop, IsOutcome, IfNodeLimit, outcome_of}
 use Rattle.bb_pool.specs.Children.{StandAt, better_names}
 use Rattle.bb_pool.specs.Searching.{name_at, StandsFor, IsSearching}
-use Rattle.bb_pool.specs.Underway.{cost_so_far, IsFound, IsUnderway, IsPut, IsNotPut, IsStored, IsTaken, IsSpent, IsOver, best_outcome}
+use Rattle.bb_pool.specs.Underway.{State, cost_so_far, IsFound, IsUnderway, IsPut, IsNotPut, IsStored, IsTaken, IsSpent, IsOver, best_outcome}
 use Rattle.bb_pool.proofs.Costs.{better_below, not_below_itself, below_better, below_limit, from_limit}
 use Rattle.bb_pool.proofs.Needs.{unavoidable_leaf, open_leaf}
 use Rattle.bb_pool.proofs.Counts.{ahead_dropped, ahead_found}
@@ -50,12 +49,12 @@ found_above None laws found = tt
 found_above (Some f) laws found = let least = laws.least_of_all f.plan found.0 in let cost = found.1 in omega arith
 
 -- a node that waits is put
-pub put_underway : {N P : Type 0} {m : Meaning N P} {nodes capacity : ℕ} {before now : Search N P}
+pub put_underway : {N P : Type 0} {m : Meaning N P} {nodes capacity : ℕ} {before now : State N P}
     (name : List ℕ) (waiting : List (List ℕ)) (key : ℕ) (node : N) → IsUnderway m nodes capacity before (name ∷ waiting) → IsPut before key node now → m.stands node name → key ≡ m.tree.bound name → length before.store < nodes
     → IsUnderway m nodes capacity now waiting
 put_underway {m} {before} {now} name waiting key node u p st bound room =
     let longer : length now.store ≡ length before.store + 1 = ap length p.stored ∙ length-append before.store (Some node ∷ []) in
-    let more : length (held now.pass) ≡ length (held before.pass) + 1 = ap length p.added ∙ length-add p.entry (held before.pass) in
+    let more : length (held now.queue) ≡ length (held before.queue) + 1 = ap length p.added ∙ length-add p.entry (held before.queue) in
     record {
       lawful = u.lawful;
       names = u.names ++ name ∷ [];
@@ -69,7 +68,7 @@ put_underway {m} {before} {now} name waiting key node u p st bound room =
     }
 
 -- a node that waits is not put
-pub stop_not_put : {N P : Type 0} (m : Meaning N P) (nodes capacity : ℕ) (before : Search N P)
+pub stop_not_put : {N P : Type 0} (m : Meaning N P) (nodes capacity : ℕ) (before : State N P)
     (name : List ℕ) (waiting : List (List ℕ)) (stop : Stop) → IsUnderway m nodes capacity before (name ∷ waiting) → IsNotPut before stop → length before.store < nodes
     → IsStop m nodes capacity stop
 stop_not_put m nodes capacity before name waiting (NodeLimit asked) u why room = absurd why
@@ -79,24 +78,24 @@ stop_not_put m nodes capacity before name waiting (Full place) u why room =
     record { below_limit = omega arith; below_needed = omega arith; from = omega arith; until = omega arith }
 
 -- the search as it stands once its least entry is removed and its node is not yet expanded
-taken_searching : {N P : Type 0} {m : Meaning N P} {nodes capacity : ℕ} {before now : Search N P} {child : Child N}
-    (u : IsUnderway m nodes capacity before []) → (t : IsTaken before child now) → IsSearching m capacity u.names (t.entry ∷ held now.pass) before.store [] (cost_so_far before.best)
+taken_searching : {N P : Type 0} {m : Meaning N P} {nodes capacity : ℕ} {before now : State N P} {child : Child N}
+    (u : IsUnderway m nodes capacity before []) → (t : IsTaken before child now) → IsSearching m capacity u.names (t.entry ∷ held now.queue) before.store [] (cost_so_far before.best)
 taken_searching u t = same_search t.first refl refl u.searching
 
 -- the node taken has the name of the entry's number
-taken_stands : {N P : Type 0} {m : Meaning N P} {nodes capacity : ℕ} {before now : Search N P} {child : Child N}
+taken_stands : {N P : Type 0} {m : Meaning N P} {nodes capacity : ℕ} {before now : State N P} {child : Child N}
     (u : IsUnderway m nodes capacity before []) → (t : IsTaken before child now) → m.stands child.node (name_at u.names t.entry.id)
-taken_stands {m} {before} {now} {child} u t = let f = All-head (StandsFor m u.names before.store) t.entry (held now.pass) (taken_searching u t).each in
+taken_stands {m} {before} {now} {child} u t = let f = All-head (StandsFor m u.names before.store) t.entry (held now.queue) (taken_searching u t).each in
     let stored = f.stored in let there = t.node in let same : f.node ≡ child.node = cc in subst (λ n. m.stands n (name_at u.names t.entry.id)) same f.named
 
 -- the search after the node was dealt with
-taken_underway : {N P : Type 0} {m : Meaning N P} {nodes capacity : ℕ} {before now : Search N P} {child : Child N}
+taken_underway : {N P : Type 0} {m : Meaning N P} {nodes capacity : ℕ} {before now : State N P} {child : Child N}
     (waiting : List (List ℕ)) (best : Option (Found P)) (u : IsUnderway m nodes capacity before []) → (t : IsTaken before child now)
-    → IsFound m best → IsSearching m capacity u.names (held now.pass) (set before.store t.entry.id None) waiting (cost_so_far best)
+    → IsFound m best → IsSearching m capacity u.names (held now.queue) (set before.store t.entry.id None) waiting (cost_so_far best)
     → IsUnderway m nodes capacity (record now { best = best }) waiting
 taken_underway {before} {now} waiting best u t found s =
     let same : length now.store ≡ length before.store = ap length t.emptied ∙ length-set before.store t.entry.id None in
-    let fewer : length (held before.pass) ≡ length (held now.pass) + 1 = let is = ap length t.first in omega arith in
+    let fewer : length (held before.queue) ≡ length (held now.queue) + 1 = let is = ap length t.first in omega arith in
     record {
       lawful = u.lawful;
       names = u.names;
@@ -108,21 +107,21 @@ taken_underway {before} {now} waiting best u t found s =
       capacity_is = t.capacity ∙ u.capacity_is;
     }
 
-unchanged : {N P : Type 0} {m : Meaning N P} {nodes capacity : ℕ} {before now : Search N P} {child : Child N} {waiting : List (List ℕ)}
+unchanged : {N P : Type 0} {m : Meaning N P} {nodes capacity : ℕ} {before now : State N P} {child : Child N} {waiting : List (List ℕ)}
     → IsTaken before child now → IsUnderway m nodes capacity (record now { best = before.best }) waiting → IsUnderway m nodes capacity now waiting
 unchanged {N} {P} {m} {nodes} {capacity} {now} {waiting} t u = subst (λ (b : Option (Found P)). IsUnderway m nodes capacity (record now { best = b }) waiting) (sym t.best) u
 
 -- a test of the best cost after the node was taken is one of that before
-before_taken : {N P : Type 0} {before now : Search N P} {child : Child N} (v : ℕ) (b : _) → IsTaken before child now → is_better v (cost_so_far now.best) ≡ b → is_better v (cost_so_far before.best) ≡ b
+before_taken : {N P : Type 0} {before now : State N P} {child : Child N} (v : ℕ) (b : _) → IsTaken before child now → is_better v (cost_so_far now.best) ≡ b → is_better v (cost_so_far before.best) ≡ b
 before_taken v b t is = subst (λ f. is_better v (cost_so_far f) ≡ b) t.best is
 
 -- the expansion of the node that was taken, by its name
-taken_expands : {N P : Type 0} {m : Meaning N P} {nodes capacity : ℕ} {before now : Search N P} {child : Child N} {step was : Step P N}
+taken_expands : {N P : Type 0} {m : Meaning N P} {nodes capacity : ℕ} {before now : State N P} {child : Child N} {step was : Step P N}
     (u : IsUnderway m nodes capacity before []) → (t : IsTaken before child now) → ((name : List ℕ) → m.stands child.node name → IsExpanded m name was) → was ≡ step → IsExpanded m (name_at u.names t.entry.id) step
 taken_expands {m} u t expanded is = let name : List ℕ = name_at u.names t.entry.id in subst (IsExpanded m name) is (expanded name (taken_stands u t))
 
 -- the node was a leaf whose plan is no better than the best
-pub leaf_left : {N P : Type 0} {m : Meaning N P} {nodes capacity : ℕ} {before now : Search N P} (child : Child N) (plan : P) (cost : ℕ) (step : Step P N)
+pub leaf_left : {N P : Type 0} {m : Meaning N P} {nodes capacity : ℕ} {before now : State N P} (child : Child N) (plan : P) (cost : ℕ) (step : Step P N)
     → IsUnderway m nodes capacity before [] → IsTaken before child now → ((name : List ℕ) → m.stands child.node name → IsExpanded m name step) → step ≡ Leaf plan → cost ≡ m.cost_of plan → is_better cost (cost_so_far now.best) ≡ false
     → IsUnderway m nodes capacity now []
 leaf_left {m} {nodes} {capacity} {before} {now} child plan cost step u t expanded is same worse =
@@ -132,10 +131,10 @@ leaf_left {m} {nodes} {capacity} {before} {now} child plan cost step u t expande
     unchanged t (taken_underway [] before.best u t u.found
     (node_closed t.entry (cost_so_far before.best) (taken_searching u t) (λ v better. better)
     (λ v r better. let low = leaf.2 v r in let good = better_below cost v (cost_so_far before.best) (omega arith) better in cc)
-    (unavoidable_leaf m.tree m.least name leaf.0) (ahead_dropped m.tree capacity u.names (held now.pass) t.entry cost (cost_so_far before.best) bad (taken_searching u t).counted.ahead)))
+    (unavoidable_leaf m.tree m.least name leaf.0) (ahead_dropped m.tree capacity u.names (held now.queue) t.entry cost (cost_so_far before.best) bad (taken_searching u t).counted.ahead)))
 
 -- the node was a leaf whose plan is better than the best
-pub leaf_found : {N P : Type 0} {m : Meaning N P} {nodes capacity : ℕ} {before now : Search N P} (child : Child N) (plan : P) (cost : ℕ) (fits : cost < key_limit) (step : Step P N)
+pub leaf_found : {N P : Type 0} {m : Meaning N P} {nodes capacity : ℕ} {before now : State N P} (child : Child N) (plan : P) (cost : ℕ) (fits : cost < key_limit) (step : Step P N)
     → IsUnderway m nodes capacity before [] → IsTaken before child now → ((name : List ℕ) → m.stands child.node name → IsExpanded m name step) → step ≡ Leaf plan → cost ≡ m.cost_of plan → is_better cost (cost_so_far now.best) ≡ true
     → IsUnderway m nodes capacity (record now { best = Some (record { plan = plan; cost = cost; cost_fits = fits }) }) []
 leaf_found {m} {nodes} {capacity} {before} {now} child plan cost fits step u t expanded is same better =
@@ -146,7 +145,7 @@ leaf_found {m} {nodes} {capacity} {before} {now} child plan cost fits step u t e
     taken_underway [] (Some (record { plan = plan; cost = cost; cost_fits = fits })) u t (leaf.1, same)
     (node_closed t.entry (Some cost) s (λ v less. below_better cost v (cost_so_far before.best) good less)
     (λ v r less. not_below_itself cost v (let low = leaf.2 v r in omega arith) less)
-    (unavoidable_leaf m.tree m.least name leaf.0) (ahead_found m.tree capacity u.names (held now.pass) t.entry (cost_so_far before.best) s.fits (open_leaf m.tree name leaf.0) s.counted.ahead))
+    (unavoidable_leaf m.tree m.least name leaf.0) (ahead_found m.tree capacity u.names (held now.queue) t.entry (cost_so_far before.best) s.fits (open_leaf m.tree name leaf.0) s.counted.ahead))
 
 below_stand : {N : Type 0} (stands : N → List ℕ → Type 0) (name : List ℕ) (nodes : List N) (ks : List ℕ) → StandBelow stands name nodes ks → StandAt stands nodes (map (below name) ks)
 below_stand stands name [] [] all = tt
@@ -160,8 +159,8 @@ some_below stands name (n ∷ ns) [] all some = absurd all
 some_below stands name (n ∷ ns) (k ∷ ks) all some = omega arith
 
 -- the node was a branch, whose children wait
-pub branched : {N P : Type 0} {m : Meaning N P} {nodes capacity : ℕ} {before now : Search N P} (child : Child N) (children : Vec N Global) (step : Step P N)
-    → IsUnderway m nodes capacity before [] → IsTaken before child now → IsRising (held before.pass)
+pub branched : {N P : Type 0} {m : Meaning N P} {nodes capacity : ℕ} {before now : State N P} (child : Child N) (children : Vec N Global) (step : Step P N)
+    → IsUnderway m nodes capacity before [] → IsTaken before child now → IsRising (held before.queue)
     → ((name : List ℕ) → m.stands child.node name → IsExpanded m name step) → IsInRange m.cost_of step → step ≡ Branch children
     → (waiting : List (List ℕ)) × StandAt m.stands children.items waiting × IsUnderway m nodes capacity now waiting
 branched {m} {before} {now} child children step u t rising expanded range is = let name : List ℕ = name_at u.names t.entry.id in
@@ -176,7 +175,7 @@ branched {m} {before} {now} child children step u t rising expanded range is = l
     )
 
 -- of those that wait, those that are not better are left out
-pub left_out : {N P : Type 0} {m : Meaning N P} {nodes capacity : ℕ} {search : Search N P} (waiting : List (List ℕ))
+pub left_out : {N P : Type 0} {m : Meaning N P} {nodes capacity : ℕ} {search : State N P} (waiting : List (List ℕ))
     → IsUnderway m nodes capacity search waiting → IsUnderway m nodes capacity search (better_names m.tree (cost_so_far search.best) waiting)
 left_out {search} waiting u = record {
   lawful = u.lawful;
@@ -190,9 +189,9 @@ left_out {search} waiting u = record {
 }
 
 -- each entry has its node in the store
-pub each_stored : {N P : Type 0} {m : Meaning N P} {nodes capacity : ℕ} {search : Search N P} {waiting : List (List ℕ)}
-    → IsUnderway m nodes capacity search waiting → All (IsStored search.store) (held search.pass)
-each_stored {m} {search} u = All-weaker (StandsFor m u.names search.store) (IsStored search.store) (λ e s. (s.node, s.stored)) (held search.pass) u.searching.each
+pub each_stored : {N P : Type 0} {m : Meaning N P} {nodes capacity : ℕ} {search : State N P} {waiting : List (List ℕ)}
+    → IsUnderway m nodes capacity search waiting → All (IsStored search.store) (held search.queue)
+each_stored {m} {search} u = All-weaker (StandsFor m u.names search.store) (IsStored search.store) (λ e s. (s.node, s.stored)) (held search.queue) u.searching.each
 
 -- where the least key is not below a limit, none is
 from_least : (cost : ℕ) (m : List Entry) → IsRising m → IfSome (least m) (λ (e : Entry). cost ≤ e.key) → All (λ (e : Entry). cost ≤ e.key) m
@@ -201,14 +200,14 @@ from_least cost (x ∷ xs) rising high = All-cons (λ (e : Entry). cost ≤ e.ke
     (All-weaker (λ (y : Entry). raw_of x ≤ raw_of y) (λ (e : Entry). cost ≤ e.key) (λ y le. let more = key_le x y le in omega arith) xs rising.0)
 
 -- no entry was left below the best cost
-spent_keys : {N P : Type 0} {m : Meaning N P} {nodes capacity : ℕ} {before now : Search N P}
-    → IsUnderway m nodes capacity before [] → IsSpent before now → IsRising (held before.pass) → All (λ (e : Entry). is_better e.key (cost_so_far before.best) ≡ false) (held before.pass)
-spent_keys {before} {now} u t rising = let ended = t.ended u.number in let best : Option ℕ = cost_so_far before.best in
+spent_keys : {N P : Type 0} {m : Meaning N P} {nodes capacity : ℕ} {before now : State N P}
+    → IsUnderway m nodes capacity before [] → IsSpent before now → IsRising (held before.queue) → All (λ (e : Entry). is_better e.key (cost_so_far before.best) ≡ false) (held before.queue)
+spent_keys {before} {now} u t rising = let ended = t.ended in let best : Option ℕ = cost_so_far before.best in
     let high = subst (λ (es : List Entry). IfSome (least es) (λ (e : Entry). limit_of best ≤ e.key)) t.same ended.at_least in
-    All-weaker (λ (e : Entry). limit_of best ≤ e.key) (λ (e : Entry). is_better e.key best ≡ false) (λ e le. from_limit e.key best e.key_fits le) (held before.pass) (from_least (limit_of best) (held before.pass) rising high)
+    All-weaker (λ (e : Entry). limit_of best ≤ e.key) (λ (e : Entry). is_better e.key best ≡ false) (λ e le. from_limit e.key best e.key_fits le) (held before.queue) (from_least (limit_of best) (held before.queue) rising high)
 
-over_by : {N P : Type 0} {m : Meaning N P} {nodes capacity : ℕ} {before : Search N P} (best : Option (Found P)) (known : Known)
-    → IsUnderway m nodes capacity before [] → best ≡ before.best → All (λ (e : Entry). is_better e.key (cost_so_far best) ≡ false) (held before.pass) → EndsAt capacity (limit_of (cost_so_far best)) known → IsOver m nodes capacity best known
+over_by : {N P : Type 0} {m : Meaning N P} {nodes capacity : ℕ} {before : State N P} (best : Option (Found P)) (known : Known)
+    → IsUnderway m nodes capacity before [] → best ≡ before.best → All (λ (e : Entry). is_better e.key (cost_so_far best) ≡ false) (held before.queue) → EndsAt capacity (limit_of (cost_so_far best)) known → IsOver m nodes capacity best known
 over_by None known u is none ended = some_best u.lawful (same_search refl refl (ap cost_so_far (sym is)) u.searching) none
 over_by {m} {before} (Some found) known u is none ended = let f : IsFound m (Some found) = subst (IsFound m) (sym is) u.found in
     let s = same_search refl refl (ap cost_so_far (sym is)) u.searching in
@@ -221,19 +220,19 @@ over_by {m} {before} (Some found) known u is none ended = let f : IsFound m (Som
     }
 
 -- the search is over
-pub over : {N P : Type 0} (m : Meaning N P) (nodes capacity : ℕ) (before now : Search N P)
-    → IsUnderway m nodes capacity before [] → IsSpent before now → IsRising (held before.pass) → IsOver m nodes capacity now.best now.pass.known
+pub over : {N P : Type 0} (m : Meaning N P) (nodes capacity : ℕ) (before now : State N P)
+    → IsUnderway m nodes capacity before [] → IsSpent before now → IsRising (held before.queue) → IsOver m nodes capacity now.best now.queue.known
 over m nodes capacity before now u t rising =
-    let ended = subst (λ (c : ℕ). EndsAt c (limit_of (cost_so_far before.best)) now.pass.known) u.capacity_is (t.ended u.number) in
-    over_by now.best now.pass.known u t.best (subst (λ b. All (λ (e : Entry). is_better e.key (cost_so_far b) ≡ false) (held before.pass)) (sym t.best) (spent_keys u t rising))
-    (subst (λ b. EndsAt capacity (limit_of (cost_so_far b)) now.pass.known) (sym t.best) ended)
+    let ended = subst (λ (c : ℕ). EndsAt c (limit_of (cost_so_far before.best)) now.queue.known) u.capacity_is t.ended in
+    over_by now.best now.queue.known u t.best (subst (λ b. All (λ (e : Entry). is_better e.key (cost_so_far b) ≡ false) (held before.queue)) (sym t.best) (spent_keys u t rising))
+    (subst (λ b. EndsAt capacity (limit_of (cost_so_far b)) now.queue.known) (sym t.best) ended)
 
 pub over_outcome : {N P : Type 0} (m : Meaning N P) (nodes capacity : ℕ) (best : Option (Found P)) (known : Known) → IsOver m nodes capacity best known → IsOutcome m nodes capacity (best_outcome best)
 over_outcome m nodes capacity None known is = absurd is
 over_outcome m nodes capacity (Some found) known is = (known, is)
 
 -- the same search, by an equal capacity
-pub same_capacity : {N P : Type 0} {m : Meaning N P} {nodes capacity other : ℕ} {search : Search N P} {waiting : List (List ℕ)}
+pub same_capacity : {N P : Type 0} {m : Meaning N P} {nodes capacity other : ℕ} {search : State N P} {waiting : List (List ℕ)}
     → capacity ≡ other → IsUnderway m nodes capacity search waiting → IsUnderway m nodes other search waiting
 same_capacity {m} {nodes} {search} {waiting} is u = subst (λ (c : ℕ). IsUnderway m nodes c search waiting) is u
 

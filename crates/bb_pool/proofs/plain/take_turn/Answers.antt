@@ -1,5 +1,6 @@
 use Rattle.std.proofs.Common.{sym, ap, ◌∙◌, arith}
 use Rattle.pq_api.specs.Plain.{marks_of}
+use Rattle.bb_pool.specs.Underway.{state_of}
 use Rattle.bb_pool.specs.Costs.{is_better}
 use Rattle.bb_pool.proofs.OnePass.Turns.{each_stored, over, branched, leaf_found, leaf_left, same_capacity}
 use Rattle.bb_pool.proofs.plain.take_turn.Goals as goal
@@ -9,11 +10,12 @@ take-requires-clause-stored g c = each_stored c.requires.underway
 
 pub branch-problem-requires-clause-underway : goal.branch-problem-requires-clause-underway
 branch-problem-requires-clause-underway g c κs within = let t = c.in-Some.ensures in
-    let b = branched c.in-Some.child c.in-Branch.children c.in_ok-plan.field-0 c.requires.underway t (c.left_rises.ensures (marks_of c.args.search.now.pass.known)) c.in_ok-plan.ensures.expanded c.in_ok-plan.ensures.range c.in-Branch.is in
+    let b = branched c.in-Some.child c.in-Branch.children c.in_ok-plan.field-0 c.requires.underway t (c.left_rises.ensures (marks_of (g.C.OnePass.seat c.args.search.now.pass).known)) c.in_ok-plan.ensures.expanded c.in_ok-plan.ensures.range c.in-Branch.is in
     (b.0, b.1, same_capacity (sym t.capacity) b.2)
 
 pub returns-in_default-clause-turn : goal.returns-in_default-clause-turn
-returns-in_default-clause-turn g c = over (g.P.Problem.meaning c.args.problem.now) c.args.nodes c.args.search.now.pass.capacity c.args.search.now c.take.new.self c.requires.underway c.in_default.ensures (c.left_rises.ensures (marks_of c.args.search.now.pass.known))
+returns-in_default-clause-turn g c = over (g.P.Problem.meaning c.args.problem.now) c.args.nodes (g.C.OnePass.seat c.args.search.now.pass).capacity
+    (state_of g.C.OnePass.seat c.args.search.now) (state_of g.C.OnePass.seat c.take.new.self) c.requires.underway c.in_default.ensures (c.left_rises.ensures (marks_of (g.C.OnePass.seat c.args.search.now.pass).known))
 
 pub returns-then-is_below-clause-turn : goal.returns-then-is_below-clause-turn
 returns-then-is_below-clause-turn g c = let t = c.in-Some.ensures in (

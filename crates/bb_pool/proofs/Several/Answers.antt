@@ -1,0 +1,68 @@
+-- What the outcome says, once all workers are joined: of a stop, and of the best plan.
+use Rattle.std.proofs.Common.{◌≡◌, ℕ, ◌+◌, List, [], Option, Some, None, refl, sym, subst, arith}
+use Rattle.std.specs.Prelude.{Contains, IsSome, IsSomeAnd}
+use Rattle.std.proofs.lemmas.List.Elements.{All-contains}
+use Rattle.pq_model.specs.declared.passes.Call.{Call}
+use Rattle.pq_model.specs.declared.passes.Lane.{Lane}
+use Rattle.pq_model.specs.declared.passes.Known.{Known}
+use Rattle.pq_model.specs.Passes.{call, calls_of, lanes, Knows}
+use Rattle.pq_model.specs.declared.marks.Act.TheVariants.{Insert}
+use Rattle.pq_model.specs.declared.marks.Reply.TheVariants as replies
+use Rattle.pq_model.proofs.Lanes.{mark_of_call}
+use Rattle.bb_problem.specs.Meaning.{Meaning, IsLawful}
+use Rattle.bb_shared.specs.Costs.{IsLower}
+use Rattle.bb_shared.specs.declared.control.stop.Stop.{Stop}
+use Rattle.bb_shared.specs.declared.control.stop.Stop.TheVariants as stops
+use Rattle.bb_pool.specs.declared.found.Found.{Found}
+use Rattle.bb_pool.specs.Outcomes.{IsOptimal}
+use Rattle.bb_pool.specs.Underway.{cost_so_far, best_outcome}
+use Rattle.bb_pool.specs.LastCalls.{IsWhole, EndsBelow}
+use Rattle.bb_pool.specs.Together.{Doing, AtWork, IsCounted, IsNumbered, IsCause, IsTogether, GoesOn}
+use Rattle.bb_pool.specs.Turns.{EndsIfWhole}
+use Rattle.bb_pool.specs.Runs.{HasRun}
+use Rattle.bb_pool.specs.SearchOutcomes.{IsSearchOutcome, IsSearchStop, IsSolved}
+use Rattle.bb_pool.proofs.Several.Turning.{rooted_more}
+use Rattle.bb_pool.proofs.Several.Ending.{none_left}
+use Rattle.bb_pool.proofs.Several.Growing.{best_is_optimal}
+use Rattle.bb_pool.proofs.Several.Room.{full_needs_room}
+use Rattle.bb_pool.proofs.Several.Runs.{numbered_more, follows_further}
+
+pub whole_of : {N L : Type 0} {seats : ℕ} {w : Doing N L} → IsNumbered seats 1 seats w → IsWhole seats w.known
+whole_of t n is = t.each n is.0 is.1
+
+pub stop_answer : {N L : Type 0} (m : Meaning N L) (nodes seats capacity idle : ℕ) (w : Doing N L) (stop : Stop) → IsNumbered seats 1 seats w → IsCounted nodes idle w → Knows seats capacity w.known → IsCause nodes w.known stop → IsSearchStop m nodes capacity seats stop
+stop_answer m nodes seats capacity idle w (stops.NodeLimit asked) t c knows cause = (refl, cause)
+stop_answer m nodes seats capacity idle w stops.NoMemory t c knows cause = tt
+stop_answer m nodes seats capacity idle w (stops.Full place) t c (history, is) (e, l, has, there) =
+    let made : Call = call place (Insert e) replies.Full in
+    let few = c.inserts in let nodes_put = c.knows.few_puts in
+    let same : calls_of l.number history ≡ l.calls = All-contains (λ (x : Lane). calls_of x.number history ≡ x.calls) (lanes w.known) l is.holds has in (
+      full_needs_room seats capacity nodes w.known history e (whole_of t) is (l, has, made, there, refl, refl) (omega arith),
+      (history, is.legal, l.number, e, mark_of_call l.number history made (subst (λ (cs : List Call). Contains cs made) (sym same) there)),
+    )
+
+pub solved : {N L : Type 0} {m : Meaning N L} {nodes seats capacity idle : ℕ} {u v w : Doing N L} → IsLawful m → u.told.stops ≡ [] → IsTogether m nodes seats capacity idle 1 seats u → HasRun m nodes idle u v → GoesOn nodes 1 v w → AtWork m w → EndsIfWhole seats capacity w
+    → IsSolved m seats capacity w
+solved {m} {nodes} {seats} {capacity} {idle} {u} {v} {w} laws none t r on work ends =
+    let f = follows_further r.follows on.follows in let n = numbered_more f t.numbered in
+    let parts : w.told.parts ≡ w.told.seats = let a = n.control_parts in let b = n.control_seats in omega arith in
+    let store_parts : w.stored.parts ≡ w.stored.seats = let a = n.parts in let b = n.seats_are in omega arith in
+    let last = ends parts (whole_of n) in
+    let knows = (on.counted idle (idle + 1) refl r.counted).knows in
+    record {
+      ends = last.0;
+      optimal = best_is_optimal m seats capacity nodes w.known w.stored w.told w.found laws work
+          (rooted_more m u.known w.known u.stored.puts w.stored.puts f.calls f.puts (t.rooted refl none)) last.0 knows store_parts (subst (λ (o : Option ℕ). IsLower w.told.own o) (sym last.1) (λ x better. better));
+    }
+
+pub some_found : {N L : Type 0} (m : Meaning N L) (found : Option (Found L)) → IsSomeAnd found (λ f. IsOptimal m.is_feasible m.cost_of f.plan f.cost) → IsSome found
+some_found m None is = absurd is
+some_found m (Some f) is = refl
+
+pub best_answer : {N L : Type 0} (m : Meaning N L) (nodes seats capacity : ℕ) (k : Known) (found : Option (Found L)) → EndsBelow seats capacity k (cost_so_far found) → IsSomeAnd found (λ f. IsOptimal m.is_feasible m.cost_of f.plan f.cost) → IsSearchOutcome m nodes capacity seats (best_outcome found)
+best_answer m nodes seats capacity k None ends is = absurd is
+best_answer m nodes seats capacity k (Some f) ends is = (is, (ends.history, ends.witnessed.legal, none_left seats capacity k (Some f.cost) ends))
+
+-- all control seats are joined, and the stop that was read is one of those that were set
+pub all_told : {N L : Type 0} {seats : ℕ} {w : Doing N L} → IsNumbered seats 1 seats w → w.told.parts ≡ w.told.seats
+all_told n = let a = n.control_parts in let b = n.control_seats in omega arith

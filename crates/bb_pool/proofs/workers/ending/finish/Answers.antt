@@ -1,0 +1,22 @@
+use Rattle.std.proofs.Common.{refl, sym, subst, ◌+◌}
+use Rattle.bb_shared.specs.Controls.{IsStopped}
+use Rattle.bb_pool.specs.Limits.{idle_calls}
+use Rattle.bb_pool.specs.Together.{doing}
+use Rattle.bb_pool.specs.SearchOutcomes.{IsSearchOutcome}
+use Rattle.bb_pool.proofs.Several.Runs.{stop_read_together}
+use Rattle.bb_pool.proofs.Several.Answers.{stop_answer, best_answer, all_told}
+use Rattle.bb_pool.proofs.workers.ending.finish.Goals as goal
+
+pub returns-in-Some : goal.returns-in-Some
+returns-in-Some g c = let m = g.P.Problem.meaning c.args.problem.now in let sh = c.args.shared.now in let Q = g.Q.SharedQueue in let t = c.requires.together in
+    let told = subst (IsStopped c.args.worker.control.kept.stops) c.in-Some.is (c.stopped.ensures.read.whole (all_told t.numbered)) in
+    subst (IsSearchOutcome m sh.nodes (Q.capacity_of sh.queue) (Q.seats_of sh.queue)) (sym c.answer.ensures)
+    (stop_answer m sh.nodes (Q.seats_of sh.queue) (Q.capacity_of sh.queue) (idle_calls + 1) (doing Q.known c.args.worker) c.in-Some.stop t.numbered t.counted t.knows (t.causes c.in-Some.stop told))
+
+pub go_alone-requires-clause-together : goal.go_alone-requires-clause-together
+go_alone-requires-clause-together g c κs among = stop_read_together c.stopped.ensures.read refl refl refl refl c.requires.together
+
+pub returns-in-Ok : goal.returns-in-Ok
+returns-in-Ok g c = let m = g.P.Problem.meaning c.args.problem.now in let sh = c.args.shared.now in let Q = g.Q.SharedQueue in let s = c.in-Ok.ensures.solved in
+    subst (IsSearchOutcome m sh.nodes (Q.capacity_of sh.queue) (Q.seats_of sh.queue)) (sym c.best.ensures)
+    (best_answer m sh.nodes (Q.seats_of sh.queue) (Q.capacity_of sh.queue) _ _ s.ends s.optimal)

@@ -1,0 +1,45 @@
+-- What the outcomes of a search by several workers mean.
+use Rattle.std.specs.Prelude.{ℕ, ◌≡◌, ◌+◌, ◌<◌, List, Some, IsSomeAnd, slice_get}
+use Rattle.pq_words.specs.declared.entries.Entry.{Entry}
+use Rattle.pq_model.specs.declared.marks.Act.TheVariants.{Insert}
+use Rattle.pq_model.specs.declared.marks.Reply.TheVariants as replies
+use Rattle.pq_model.specs.declared.marks.Mark.{Mark}
+use Rattle.pq_model.specs.History.{mark, IsLegal}
+use Rattle.bb_problem.specs.Meaning.{Meaning}
+use Rattle.bb_shared.specs.declared.control.stop.Stop.{Stop}
+use Rattle.bb_shared.specs.declared.control.stop.Stop.TheVariants as stops
+use Rattle.bb_pool.specs.declared.outcome.Outcome.{Outcome}
+use Rattle.bb_pool.specs.declared.outcome.Outcome.TheVariants as outcomes
+use Rattle.bb_pool.specs.Outcomes.{IsOptimal}
+use Rattle.bb_pool.specs.Underway.{cost_so_far}
+use Rattle.bb_pool.specs.LastCalls.{EndsBelow, EndsSomewhere}
+use Rattle.bb_pool.specs.Together.{Doing}
+
+-- an insert was answered Full at this place of a legal history
+abbrev pub IsFullMark : ℕ → ℕ → ℕ → Type 0
+IsFullMark seats capacity place = (history : List Mark) × IsLegal seats capacity history
+    × (seat : ℕ) × (e : Entry) × (slice_get history place ≡ Some (mark seat (Insert e) replies.Full))
+
+-- What each outcome says, under this node limit, on a queue of this capacity and with so many seats. That there is no
+-- memory says nothing.
+abbrev pub IsSearchOutcome : {N P : Type 0} → Meaning N P → ℕ → ℕ → ℕ → Outcome P → Type 0
+IsSearchOutcome m nodes capacity seats (outcomes.Best plan cost) =
+    IsOptimal m.is_feasible m.cost_of plan cost × EndsSomewhere seats capacity cost
+IsSearchOutcome m nodes capacity seats (outcomes.NodeLimit asked limit) = (limit ≡ nodes) × (limit < asked)
+IsSearchOutcome m nodes capacity seats (outcomes.Full place) =
+    (capacity < nodes + seats) × IsFullMark seats capacity place
+IsSearchOutcome m nodes capacity seats outcomes.NoMemory = Unit {0}
+
+-- the outcome of a search that was stopped, under this node limit
+abbrev pub answer_of : {P : Type 0} → Stop → ℕ → Outcome P
+answer_of (stops.NodeLimit asked) limit = outcomes.NodeLimit asked limit
+answer_of (stops.Full place) limit = outcomes.Full place
+answer_of stops.NoMemory limit = outcomes.NoMemory
+
+abbrev pub IsSearchStop : {N P : Type 0} → Meaning N P → ℕ → ℕ → ℕ → Stop → Type 0
+IsSearchStop m nodes capacity seats stop = IsSearchOutcome m nodes capacity seats (answer_of stop nodes)
+
+-- There is a best plan, it is optimal, and the worker's last call asked for an entry below its cost and found none.
+pub record IsSolved {N P : Type 0} (m : Meaning N P) (seats capacity : ℕ) (w : Doing N P) : Type 0 where
+  pub ends : EndsBelow seats capacity w.known (cost_so_far w.found)
+  pub optimal : IsSomeAnd w.found (λ f. IsOptimal m.is_feasible m.cost_of f.plan f.cost)

@@ -1,0 +1,162 @@
+//! The workers joined into one, which goes on alone until nothing is left below its best cost.
+
+ghost use Rattle.std.specs.Prelude.{◌≡◌, ℕ, ◌+◌, ◌≤◌, [], length, IfOk, IfErr, IsSome};
+ghost use Rattle.pq_model.specs.Passes.{IsApart};
+ghost use Rattle.pq_api.specs.Answers.{EachAt};
+ghost use Rattle.bb_pool.specs.Limits.{idle_calls};
+ghost use Rattle.bb_pool.specs.Working.{lesser_found};
+ghost use Rattle.bb_pool.specs.Together.{doing, IsOneOf, IsTogether};
+ghost use Rattle.bb_pool.specs.Runs.{IsJoinedOf};
+ghost use Rattle.bb_pool.specs.SearchOutcomes.{IsSearchOutcome, IsSolved, answer_of, IsSearchStop};
+ghost use Rattle.bb_pool.specs.Underway.{best_outcome};
+
+use super::shared::{Shared, Worker};
+use super::turn::{Turn, take_turn};
+use crate::found::Found;
+use crate::outcome::Outcome;
+use bb_problem::Problem;
+use bb_shared::Stop;
+use pq_api::{BoundedQueue, Gate};
+use std::alloc::Global;
+use std::sync::Wait;
+
+/// Joins all workers into the first.
+pub(crate) fn join_all<Q: BoundedQueue, P: Problem>(
+    problem: &P,
+    shared: &Shared<Q, P::Node>,
+    workers: Vec<Worker<Q::Pass, P::Node, P::Plan>>,
+) -> Worker<Q::Pass, P::Node, P::Plan>
+    requires some { 1 ≤ length workers.items }
+    requires ended { EachAt (λ k w. IsOneOf Q.belongs shared.now w
+        × IsTogether (P.meaning problem.now) shared.now.nodes (Q.seats_of shared.now.queue)
+        (Q.capacity_of shared.now.queue) (idle_calls + 1) (k + 1) (k + 1) (doing Q.known w)) workers.items }
+    ensures own { IsOneOf Q.belongs shared.now result }
+    ensures together { IsTogether (P.meaning problem.now) shared.now.nodes (Q.seats_of shared.now.queue)
+        (Q.capacity_of shared.now.queue) (idle_calls + 1) 1 (length workers.items) (doing Q.known result) }
+{
+    let mut all = workers;
+    let mut first = all.remove(0);
+    for other in all {
+        join(shared, &mut first, other);
+    }
+    first
+}
+
+// Joins the other worker into the first: its pass, its seats, and its plan where that is cheaper.
+fn join<Q: BoundedQueue, N: Send + Drop, L: Send + Drop>(
+    shared: &Shared<Q, N>,
+    into: &mut Worker<Q::Pass, N, L>,
+    other: Worker<Q::Pass, N, L>,
+)
+    requires own { IsOneOf Q.belongs shared.now into.old × IsOneOf Q.belongs shared.now other }
+    requires apart { IsApart (Q.known into.old.pass) (Q.known other.pass) }
+    ensures own { IsOneOf Q.belongs shared.now into.new }
+    ensures joined { IsJoinedOf shared.now.nodes (Q.seats_of shared.now.queue) (Q.capacity_of shared.now.queue)
+        (doing Q.known into.old) (doing Q.known other) (doing Q.known into.new) }
+{
+    let Worker {
+        pass,
+        seat,
+        control,
+        keys: _,
+        found,
+        made: _,
+    } = other;
+    shared.queue.join(&mut into.pass, pass);
+    shared.store.join(&mut into.seat, seat);
+    shared.control.join(&mut into.control, control);
+    into.found = cheaper(into.found.take(), found);
+}
+
+// The cheaper of two plans, the first where they cost the same.
+fn cheaper<L: Drop>(first: Option<Found<L>>, second: Option<Found<L>>) -> Option<Found<L>>
+    ensures { result ≡ lesser_found first second }
+{
+    match (first, second) {
+        (None, second) => second,
+        (Some(first), None) => Some(first),
+        (Some(first), Some(second)) => {
+            if second.cost < first.cost {
+                return Some(second);
+            }
+            Some(first)
+        }
+    }
+}
+
+/// The outcome of the workers that were joined into one: the first stop, or the best plan once that one has gone on
+/// alone.
+pub(crate) fn finish<R: Wait + Sync, Q: BoundedQueue, P: Problem, G: Gate>(
+    rt: &R,
+    alloc: Global,
+    problem: &P,
+    shared: &Shared<Q, P::Node>,
+    gate: &G,
+    worker: Worker<Q::Pass, P::Node, P::Plan>,
+) -> Outcome<P::Plan>
+    requires valid { P.is_problem problem.now }
+    requires own { IsOneOf Q.belongs shared.now worker }
+    requires together { IsTogether (P.meaning problem.now) shared.now.nodes (Q.seats_of shared.now.queue)
+        (Q.capacity_of shared.now.queue) (idle_calls + 1) 1 (Q.seats_of shared.now.queue) (doing Q.known worker) }
+    ensures { IsSearchOutcome (P.meaning problem.now) shared.now.nodes (Q.capacity_of shared.now.queue)
+        (Q.seats_of shared.now.queue) result }
+{
+    let mut worker = worker;
+    if let Some(stop) = shared.control.stopped(&mut worker.control) {
+        return answer(stop, shared.nodes);
+    }
+    match go_alone(rt, alloc, problem, shared, gate, &mut worker) {
+        Ok(()) => best(worker.found),
+        Err(stop) => answer(stop, shared.nodes),
+    }
+}
+
+// Takes turns until no entry is left that is below the best cost, or a stop.
+fn go_alone<R: Wait + Sync, Q: BoundedQueue, P: Problem, G: Gate>(
+    rt: &R,
+    alloc: Global,
+    problem: &P,
+    shared: &Shared<Q, P::Node>,
+    gate: &G,
+    worker: &mut Worker<Q::Pass, P::Node, P::Plan>,
+) -> Result<(), Stop>
+    requires valid { P.is_problem problem.now }
+    requires own { IsOneOf Q.belongs shared.now worker.old }
+    requires none { worker.old.control.kept.stops ≡ [] }
+    requires together { IsTogether (P.meaning problem.now) shared.now.nodes (Q.seats_of shared.now.queue)
+        (Q.capacity_of shared.now.queue) (idle_calls + 1) 1 (Q.seats_of shared.now.queue) (doing Q.known worker.old) }
+    ensures solved { IfOk result (λ _. IsSolved (P.meaning problem.now) (Q.seats_of shared.now.queue)
+        (Q.capacity_of shared.now.queue) (doing Q.known worker.new)) }
+    ensures stopped { IfErr result (IsSearchStop (P.meaning problem.now) shared.now.nodes
+        (Q.capacity_of shared.now.queue) (Q.seats_of shared.now.queue)) }
+{
+    for _ in rt.forever() {
+        match take_turn(rt, alloc, problem, shared, gate, worker)? {
+            Turn::Worked => {}
+            Turn::Idle => return Ok(()),
+        }
+    }
+    unreachable!()
+}
+
+// The outcome of the best plan.
+fn best<L: Drop>(found: Option<Found<L>>) -> Outcome<L>
+    requires { IsSome found }
+    ensures { result ≡ best_outcome found }
+{
+    let Some(Found { plan, cost }) = found else {
+        unreachable!()
+    };
+    Outcome::Best { plan, cost }
+}
+
+// The outcome of a search that was stopped, under this node limit.
+fn answer<L>(stop: Stop, limit: u32) -> Outcome<L>
+    ensures { result ≡ answer_of stop limit }
+{
+    match stop {
+        Stop::NodeLimit { asked } => Outcome::NodeLimit { asked, limit },
+        Stop::Full { place } => Outcome::Full { place },
+        Stop::NoMemory => Outcome::NoMemory,
+    }
+}
