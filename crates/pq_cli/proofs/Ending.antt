@@ -1,19 +1,17 @@
 -- What the status of a call says of how it ended.
-use Rattle.std.proofs.Common.{◌≡◌, ◌≤◌, ◌∙◌, ◌⊎◌, min, inl, inr, refl, sym, ap, subst, ℕ, List, Option, None, Some, IfSome, MatchOption, arith}
-use Rattle.pq_io.specs.declared.text.fault.BadInput.{BadInput}
+use Rattle.std.proofs.Common.{◌≡◌, ◌≤◌, ◌∙◌, ◌⊎◌, min, inl, inr, refl, ap, subst, ℕ, List, Option, None, Some, IfSome, MatchOption, arith}
 use Rattle.bb_pool.specs.Outcomes.{IsOverLimit, IsFullAt}
 use Rattle.pq_cli.specs.declared.command.Command.{Command}
 use Rattle.pq_cli.specs.declared.refusal.Refusal.{Refusal}
 use Rattle.pq_cli.specs.declared.refusal.Refusal.TheVariants as refusals
 use Rattle.pq_cli.specs.declared.status.Status.{Status}
 use Rattle.pq_cli.specs.declared.status.Status.TheVariants as statuses
-use Rattle.pq_cli.specs.CommandWords.{command_of}
 use Rattle.pq_cli.specs.Commands.{work_of}
 use Rattle.pq_cli.specs.Refusals.{status_of}
 use Rattle.pq_cli.specs.Statuses.{IsAnswered}
-use Rattle.pq_cli.specs.Streams.{Change, IsFailed, WereLeft, IsTaken}
-use Rattle.pq_cli.specs.Work.{Work, Search, fault_of, HasEnough, IsLimited, IsFilled}
-use Rattle.pq_cli.specs.Runs.{IsFaulty, Stops, IsWhole, IsStopped, IsCut, Ends, IsUnread, IsRun, IsReported, IsAnsweredWhole, IsComplete}
+use Rattle.pq_cli.specs.Streams.{Change, IsFailed}
+use Rattle.pq_cli.specs.Work.{Work, Search, fault_of, HasEnough}
+use Rattle.pq_cli.specs.Runs.{Stops, IsWhole, Ends, IsUnread, IsRun, IsReported, IsAnsweredWhole, IsComplete}
 
 -- answers
 
@@ -31,13 +29,11 @@ whole_end work status input output answered (inl whole) = whole
 whole_end work status input output answered (inr (inl s)) = absurd (not_answered s.refusal (subst IsAnswered s.named answered))
 whole_end work status input output answered (inr (inr cut)) = absurd (subst IsAnswered cut.named answered)
 
-whole_run : {I O : Type 0} (words : List (List ℕ)) (status : Status) (input : Change I) (output : Change O) (said : Option Command) →
-    command_of words ≡ said → IsAnswered status →
-    MatchOption said (IsUnread status input output) (λ c. Ends (work_of c) status input output) →
-    IsAnsweredWhole words status input output
-whole_run words status input output None is answered ran = absurd (subst IsAnswered ran.bad_words answered)
-whole_run words status input output (Some c) is answered ran =
-    record { command = c; said = is; whole = whole_end (work_of c) status input output answered ran }
+whole_run : {I O : Type 0} (said : Option Command) (status : Status) (input : Change I) (output : Change O) →
+    IsAnswered status → IsRun said status input output → IsAnsweredWhole said status input output
+whole_run None status input output answered ran = absurd (subst IsAnswered ran.bad_words answered)
+whole_run (Some c) status input output answered ran =
+    record { command = c; is = refl; whole = whole_end (work_of c) status input output answered ran }
 
 kept_end : {E : Type 0} (status ended : Status) (faults : Change E) → IsReported status ended faults → IsAnswered ended → ended ≡ status
 kept_end status ended faults reported answered = elim reported.line [
@@ -45,12 +41,12 @@ kept_end status ended faults reported answered = elim reported.line [
   | inr failed ↦ absurd (subst IsAnswered failed.0 answered)
 ]
 
--- at Ok and Illegal the words' command has its whole answer in the output
-pub answered_whole : {I O E : Type 0} (words : List (List ℕ)) (status ended : Status) (input : Change I) (output : Change O) (faults : Change E) →
-    IsRun words status input output → IsReported status ended faults → IsAnswered ended → IsAnsweredWhole words ended input output
-answered_whole words status ended input output faults ran reported answered =
+-- at Ok and Illegal the command that was said has its whole answer in the output
+pub answered_whole : {I O E : Type 0} (said : Option Command) (status ended : Status) (input : Change I) (output : Change O) (faults : Change E) →
+    IsRun said status input output → IsReported status ended faults → IsAnswered ended → IsAnsweredWhole said ended input output
+answered_whole said status ended input output faults ran reported answered =
     let same = kept_end status ended faults reported answered in
-    rw same (whole_run words status input output (command_of words) refl (subst IsAnswered same answered) ran)
+    rw same (whole_run said status input output (subst IsAnswered same answered) ran)
 
 -- completeness
 
@@ -58,10 +54,10 @@ with_some : {A : Type 0} (o : Option A) (P : A → Type 0) → ((x : A) → o �
 with_some None P f = tt
 with_some (Some x) P f = f x refl
 
-said_ends : {I O : Type 0} (words : List (List ℕ)) (c : Command) (status : Status) (input : Change I) (output : Change O) →
-    command_of words ≡ Some c → IsRun words status input output → Ends (work_of c) status input output
-said_ends words c status input output said ran =
-    subst (λ o. MatchOption o (IsUnread status input output) (λ k. Ends (work_of k) status input output)) said ran
+said_ends : {I O : Type 0} (said : Option Command) (c : Command) (status : Status) (input : Change I) (output : Change O) →
+    said ≡ Some c → IsRun said status input output → Ends (work_of c) status input output
+said_ends said c status input output is ran =
+    subst (λ o. MatchOption o (IsUnread status input output) (λ k. Ends (work_of k) status input output)) is ran
 
 left_is : {A : Type 0} (o : Option A) (x y : A) → o ≡ Some y → IfSome o (λ z. x ≡ z) → x ≡ y
 left_is o x y is h = subst (λ p. IfSome p (λ z. x ≡ z)) is h
@@ -114,10 +110,10 @@ kept_outcome status ended faults reported still outcome = elim reported.line [
   | inr failed ↦ absurd (still failed.1)
 ]
 
--- where there was all that the words' command needs, there is an answer, or no memory
-pub completed : {I O E : Type 0} (words : List (List ℕ)) (status ended : Status) (input : Change I) (output : Change O) (faults : Change E) →
-    IsRun words status input output → IsReported status ended faults →
-    (c : Command) → command_of words ≡ Some c → IsComplete (work_of c) ended input output faults
-completed words status ended input output faults ran reported c said = with_some (input.told input.old) _ (λ bytes told reads enough still written reporting.
+-- where there was all that the command needs, there is an answer, or no memory
+pub completed : {I O E : Type 0} (said : Option Command) (status ended : Status) (input : Change I) (output : Change O) (faults : Change E) →
+    IsRun said status input output → IsReported status ended faults →
+    (c : Command) → said ≡ Some c → IsComplete (work_of c) ended input output faults
+completed said status ended input output faults ran reported c is = with_some (input.told input.old) _ (λ bytes told reads enough still written reporting.
     kept_outcome status ended faults reported reporting
-    (answered_or_no_memory (work_of c) status input output bytes told reads enough still written (said_ends words c status input output said ran)))
+    (answered_or_no_memory (work_of c) status input output bytes told reads enough still written (said_ends said c status input output is ran)))

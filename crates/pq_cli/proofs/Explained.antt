@@ -1,5 +1,5 @@
 -- Why a command has no answer to an input: a refusal of gathering it, or of the work on its bytes.
-use Rattle.std.proofs.Common.{◌≡◌, ◌<◌, ◌≤◌, ◌⊎◌, inl, inr, sym, [], IfSome, IfErr, Result, ℕ, List, length, Option, None, Some, arith}
+use Rattle.std.proofs.Common.{◌≡◌, ◌<◌, ◌≤◌, ◌⊎◌, inl, inr, IfSome, ℕ, List, length, Option, None, Some, arith}
 use Rattle.std.proofs.lemmas.Bool.Decides.{nat_tests}
 use Rattle.pq_io.specs.Inputs.{longest_input, too_large, ExplainsInput}
 use Rattle.pq_io.specs.declared.input.InputRefusal.{InputRefusal}

@@ -1,5 +1,5 @@
 -- A script has one history on a queue of one seat.
-use Rattle.std.proofs.Common.{◌≡◌, ◌∙◌, ◌≤◌, ◌<◌, ℕ, zero, suc, List, [], ◌∷◌, length, map, Option, None, Some, ◌+◌, Bool, true, false, nat_lt, if◌then◌else◌, refl, sym, ap, subst, arith}
+use Rattle.std.proofs.Common.{◌≡◌, ◌∙◌, ◌≤◌, ◌<◌, ℕ, suc, List, [], ◌∷◌, length, map, Option, None, Some, ◌+◌, true, false, nat_lt, if◌then◌else◌, refl, sym, ap, subst, arith}
 use Rattle.std.specs.Prelude.{All, IsSomeAnd}
 use Rattle.std.proofs.lemmas.Bool.Decides.{nat_tests}
 use Rattle.pq_words.specs.declared.entries.Entry.{Entry}
@@ -10,7 +10,8 @@ use Rattle.pq_model.specs.declared.marks.Reply.TheVariants.{Done, Got, Empty, Fu
 use Rattle.pq_model.specs.declared.marks.Mark.{Mark}
 use Rattle.pq_model.specs.Multiset.{least}
 use Rattle.pq_model.specs.History.{IsStep, IsLegalFrom, after, mark}
-use Rattle.pq_cli.specs.Tracing.{IsTraceOf}
+use Rattle.pq_lanes.specs.Tracing.{IsTraceOf}
+use Rattle.pq_lanes.proofs.Ran.{all_first, acts_of_one}
 
 -- the reply of a queue with one seat
 
@@ -96,5 +97,9 @@ same_marks capacity (act ∷ acts) m (x ∷ xs) (y ∷ ys) a b s t p q =
     ap (λ zs. x ∷ zs) (same_marks capacity acts (after m x.act x.reply) xs ys xs_are ys_are (others (λ (z : Mark). z.seat ≡ 1) x xs s) (others (λ (z : Mark). z.seat ≡ 1) y ys t) p.1 rest)
     ∙ ap (λ z. z ∷ ys) same
 
-pub traces_are_one : (capacity : ℕ) (acts : List Act) (xs ys : List Mark) → IsTraceOf capacity acts xs → IsTraceOf capacity acts ys → xs ≡ ys
-traces_are_one capacity acts xs ys x y = same_marks capacity acts [] xs ys x.acts_are y.acts_are x.seats y.seats x.legal.steps y.legal.steps
+pub traces_are_one : (capacity : ℕ) (acts : List Act) (xs ys : List Mark) → IsTraceOf capacity (acts ∷ []) xs → IsTraceOf capacity (acts ∷ []) ys → xs ≡ ys
+traces_are_one capacity acts xs ys x y =
+    same_marks capacity acts [] xs ys (all_acts xs x) (all_acts ys y) (all_first capacity xs x.legal) (all_first capacity ys y.legal) x.legal.steps y.legal.steps
+  where
+    all_acts : (zs : List Mark) → IsTraceOf capacity (acts ∷ []) zs → map (λ (z : Mark). z.act) zs ≡ acts
+    all_acts zs z = sym (acts_of_one capacity zs z.legal) ∙ z.lanes 0 acts (omega arith)

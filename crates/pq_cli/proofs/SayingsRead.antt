@@ -1,8 +1,8 @@
 -- Words are read as settings exactly where they say them.
-use Rattle.std.proofs.Common.{◌≡◌, ◌∙◌, ◌⊎◌, ◌+◌, inl, inr, refl, sym, ap, subst, ℕ, suc, Bool, true, false, cond, not, nat_lt, ◌==◌, List, [], ◌∷◌, ◌++◌, length, length-append, add-one, take, drop, if◌then◌else◌, Option, None, Some, arith}
+use Rattle.std.proofs.Common.{◌≡◌, ◌∙◌, ◌⊎◌, ◌+◌, inl, inr, refl, sym, ap, subst, ℕ, suc, Bool, true, false, cond, nat_lt, ◌==◌, List, [], ◌∷◌, ◌++◌, length, length-append, take, drop, if◌then◌else◌, Option, None, Some, arith}
 use Rattle.std.proofs.lemmas.Bool.Decides.{nat_tests}
-use Rattle.std.specs.Prelude.{codes, position}
-use Rattle.std.specs.List.{AllByRecursion, position_or_len}
+use Rattle.std.specs.Prelude.{codes}
+use Rattle.std.specs.List.{position_or_len}
 use Rattle.std.specs.Str.{bytes_eq}
 use Rattle.pq_io.proofs.Taken.{same_word}
 use Rattle.pq_cli.specs.declared.command.Branching.{Branching}
@@ -10,7 +10,7 @@ use Rattle.pq_cli.specs.declared.command.Kind.{Kind}
 use Rattle.pq_cli.specs.declared.command.Which.{Which}
 use Rattle.pq_cli.specs.declared.words.settings.Settings.{Settings}
 use Rattle.pq_cli.specs.Words.{◌>>=◌, once, kind_of, which_of, number_in, branching_of, with_kind, with_queue, with_workers, with_nodes, with_capacity, with_branching, with_option, with_lone, with_last, with_body, with_split, after_two, unless_split, behind_dashes, split_at_equals, pair_name, settings_from}
-use Rattle.pq_cli.specs.Sayings.{Saying, Named, Valued, HasNoEquals, IsOption, Say, named, values_of, Becomes, IsOptionName, AreKnown, AreSettings, AreSaid}
+use Rattle.pq_cli.specs.Sayings.{Saying, Named, Valued, HasNoEquals, IsOption, Say, named, values_of, Becomes, IsOptionName, AreSettings, AreSaid}
 use Rattle.pq_cli.proofs.WordSteps.{lone_step, pair_step}
 
 -- a word behind two dashes

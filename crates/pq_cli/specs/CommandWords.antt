@@ -10,6 +10,8 @@ use Rattle.pq_cli.specs.declared.command.Kind.{Kind}
 use Rattle.pq_cli.specs.declared.command.Branching.{Branching}
 use Rattle.pq_cli.specs.declared.command.Branching.TheVariants.{Dispatch}
 use Rattle.pq_cli.specs.declared.command.Kind.TheVariants.{Knapsack, Shop}
+use Rattle.pq_cli.specs.declared.command.Which.{Which}
+use Rattle.pq_cli.specs.declared.command.Which.TheVariants.{Plain, Hunt}
 use Rattle.pq_cli.specs.declared.command.Command.{Command}
 use Rattle.pq_cli.specs.declared.command.Command.TheVariants.{Solve, Bound, Check, Prove, Verify, Trace, Audit}
 use Rattle.pq_cli.specs.declared.commands.task.Task.{Task}
@@ -37,13 +39,19 @@ branching_for Shop said = Some (unwrap_or said Dispatch)
 branching_for Knapsack None = Some Dispatch
 branching_for Knapsack (Some branching) = None
 
+-- the queues that a search runs on
+abbrev pub searched : Which → Option Which
+searched Plain = Some Plain
+searched Hunt = None
+
 -- A problem and a queue; one worker, one node at least, and a capacity of at least the workers. Where it is not said,
 -- the capacity is the nodes and the workers.
 unfoldable pub solve_from : Settings → Option Command
 solve_from said = do
   kind ← said.kind
   branching ← branching_for kind said.branching
-  queue ← said.queue
+  named ← said.queue
+  queue ← searched named
   workers ← within 1 1 (unwrap_or said.workers 1)
   nodes ← within 1 max_nodes (unwrap_or said.nodes default_nodes)
   capacity ← within workers max_capacity (unwrap_or said.capacity (nodes + workers))
@@ -88,12 +96,12 @@ verify_from said = kind_alone said >>= verify_of
 abbrev pub default_capacity : ℕ
 default_capacity = 1024
 
--- a queue and a capacity
+-- A queue and a capacity. Where no queue is said, it is the heap.
 unfoldable pub trace_from : Settings → Option Command
 trace_from said = do
-  queue ← said.queue
   capacity ← within 1 max_capacity (unwrap_or said.capacity default_capacity)
-  if is_none said.kind && (is_none said.branching && (is_none said.workers && is_none said.nodes)) then Some (Trace queue capacity) else None
+  if is_none said.kind && (is_none said.branching && (is_none said.workers && is_none said.nodes))
+      then Some (Trace (unwrap_or said.queue Hunt) capacity) else None
 
 -- nothing
 unfoldable pub audit_from : Settings → Option Command
@@ -114,6 +122,20 @@ command_of (name ∷ words) =
     else if bytes_eq name (codes "trace") then settings_from nothing words >>= trace_from
     else if bytes_eq name (codes "audit") then settings_from nothing words >>= audit_from
     else None
+
+-- whether a command is one that needs no threads
+abbrev pub still_alone : Command → Option Command
+still_alone (Trace Hunt capacity) = None
+still_alone c = Some c
+
+-- the command that the words say, where it needs no threads
+abbrev pub still_command_of : List (List ℕ) → Option Command
+still_command_of words = command_of words >>= still_alone
+
+-- a command needs no threads
+abbrev pub IsStill : Command → Type 0
+IsStill (Trace Hunt capacity) = ⊥
+IsStill c = Unit {0}
 
 -- what reading the words answers, where it takes no memory
 abbrev pub answer_of : Option Command → Result Command WordsRefusal

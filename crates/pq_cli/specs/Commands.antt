@@ -1,5 +1,5 @@
 -- What each command is to do.
-use Rattle.std.specs.Prelude.{ℕ, ◌≡◌, ◌≤◌, List, Result, Ok, Err, Some, None}
+use Rattle.std.specs.Prelude.{ℕ, ◌≡◌, Result, Ok, Err, Some, None}
 use Rattle.pq_io.specs.declared.text.fault.BadInput.{BadInput}
 use Rattle.pq_tape.specs.HistoryReading.{history_of}
 use Rattle.inst_text.specs.Knapsack.{knapsack_of}
@@ -13,14 +13,13 @@ use Rattle.pq_cli.specs.declared.command.Command.{Command}
 use Rattle.pq_cli.specs.declared.command.Command.TheVariants as commands
 use Rattle.pq_cli.specs.declared.commands.task.Task.{Task}
 use Rattle.pq_cli.specs.declared.commands.task.Task.TheVariants.{Solve, Bound, Check}
-use Rattle.pq_cli.specs.declared.status.Status.{Status}
 use Rattle.pq_cli.specs.declared.status.Status.TheVariants as statuses
 use Rattle.pq_cli.specs.Auditing.{IsAudited}
-use Rattle.pq_cli.specs.Tracing.{IsTraced}
+use Rattle.pq_cli.specs.Tracing.{IsTraced, lanes_on}
 use Rattle.pq_cli.specs.Proving.{IsProved, IsProofTooLong, IsVerified}
 use Rattle.pq_cli.specs.Using.{Texts, IsSolved, IsRootBound, IsChecked}
 use Rattle.pq_cli.specs.Problems.{Used, used}
-use Rattle.pq_cli.specs.Work.{Work, Search, fault_in}
+use Rattle.pq_cli.specs.Work.{Work, fault_in}
 
 -- how many nodes a search has to make for the instance that was read
 abbrev pub needed_for : {I N P : Type 0} → (I → Meaning N P) → Result I BadInput → ℕ
@@ -89,11 +88,11 @@ verifying = record {
   IsTooLong = λ bytes. ⊥;
 }
 
--- the history of a script
-abbrev pub tracing : ℕ → Work
-tracing capacity = record {
-  first_fault = λ bytes. fault_in (script_of 1 bytes);
-  IsAnswer = λ bytes status text. (status ≡ statuses.Ok) × IsTraced capacity bytes text;
+-- a history of a script that may have so many lanes
+abbrev pub tracing : ℕ → ℕ → Work
+tracing allowed capacity = record {
+  first_fault = λ bytes. fault_in (script_of allowed bytes);
+  IsAnswer = λ bytes status text. (status ≡ statuses.Ok) × IsTraced allowed capacity bytes text;
   search = None;
   IsTooLong = λ bytes. ⊥;
 }
@@ -109,10 +108,11 @@ abbrev pub used_work : Used → Task → Work
 used_work u task = task_work u.meaning u.texts task
 
 abbrev pub work_of : Command → Work
-work_of (commands.Solve kind branching queue workers nodes capacity) = used_work (used kind branching) (Solve nodes capacity)
+work_of (commands.Solve kind branching queue workers nodes capacity) =
+    used_work (used kind branching) (Solve nodes capacity)
 work_of (commands.Bound kind branching) = used_work (used kind branching) Bound
 work_of (commands.Check kind) = used_work (used kind Dispatch) Check
-work_of (commands.Trace queue capacity) = tracing capacity
+work_of (commands.Trace queue capacity) = tracing (lanes_on queue capacity) capacity
 work_of (commands.Prove queue workers nodes capacity) = proving nodes capacity
 work_of commands.Verify = verifying
 work_of commands.Audit = auditing

@@ -7,7 +7,6 @@ use Rattle.pq_cli.specs.declared.refusal.Refusal.{Refusal}
 use Rattle.pq_cli.specs.declared.refusal.Refusal.TheVariants as refusals
 use Rattle.pq_cli.specs.declared.status.Status.{Status}
 use Rattle.pq_cli.specs.declared.status.Status.TheVariants as statuses
-use Rattle.pq_cli.specs.CommandWords.{command_of}
 use Rattle.pq_cli.specs.Commands.{work_of}
 use Rattle.pq_cli.specs.Refusals.{status_of}
 use Rattle.pq_cli.specs.Reports.{fault_text}
@@ -74,16 +73,16 @@ abbrev pub Ends : {I O : Type 0} → Work → Status → Change I → Change O �
 Ends work status input output =
     IsWhole work status input output ⊎ (IsStopped work status input output ⊎ IsCut work status input output)
 
--- No command reads the words, and input and output are as they were.
+-- No command was said, and input and output are as they were.
 pub record IsUnread {I O : Type 0} (status : Status) (input : Change I) (output : Change O) : Type 0 where
   pub bad_words : status ≡ statuses.BadWords
   pub unread : IsSame input
   pub unwritten : IsSame output
 
--- What a call with these words came to.
-abbrev pub IsRun : {I O : Type 0} → List (List ℕ) → Status → Change I → Change O → Type 0
-IsRun words status input output =
-    MatchOption (command_of words) (IsUnread status input output) (λ c. Ends (work_of c) status input output)
+-- What a call came to whose words said this command, or none.
+abbrev pub IsRun : {I O : Type 0} → Option Command → Status → Change I → Change O → Type 0
+IsRun said status input output =
+    MatchOption said (IsUnread status input output) (λ c. Ends (work_of c) status input output)
 
 -- The text was written, and the status stays; or a prefix of it was, and writing failed.
 abbrev pub IsWritten : {S : Type 0} → List ℕ → Status → Status → Change S → Type 0
@@ -96,18 +95,18 @@ pub record IsReported {E : Type 0} (status ended : Status) (faults : Change E) :
   pub silent : IsAnswered status → (ended ≡ status) × IsSame faults
   pub line : IsWritten (fault_text status) status ended faults
 
--- The status that the words came to, and how it was reported.
-pub record IsRunAndReported {I O E : Type 0} (words : List (List ℕ)) (ended : Status)
+-- The status that a call came to whose words said this command, or none, and how it was reported.
+pub record IsRunAndReported {I O E : Type 0} (said : Option Command) (ended : Status)
     (input : Change I) (output : Change O) (faults : Change E) : Type 0 where
   pub status : Status
-  pub ran : IsRun words status input output
+  pub ran : IsRun said status input output
   pub reported : IsReported status ended faults
 
--- The words' command has an answer, which was written whole.
-pub record IsAnsweredWhole {I O : Type 0} (words : List (List ℕ)) (status : Status)
+-- The command that was said has an answer, which was written whole.
+pub record IsAnsweredWhole {I O : Type 0} (said : Option Command) (status : Status)
     (input : Change I) (output : Change O) : Type 0 where
   pub command : Command
-  pub said : command_of words ≡ Some command
+  pub is : said ≡ Some command
   pub whole : IsWhole (work_of command) status input output
 
 -- Where the input has a reading for the work, its limits are enough and no count of faults rose, there is an answer,

@@ -1,31 +1,34 @@
--- A script that one caller runs on a queue, and the history that comes of it.
-use Rattle.std.specs.Prelude.{ℕ, ◌≡◌, ◌≤◌, List, [], ◌∷◌, length, map, All, Ok}
-use Rattle.pq_words.specs.Limits.{key_limit}
+-- The text of a script's history, and what one caller has made of it so far.
+use Rattle.std.specs.Prelude.{ℕ, ◌≡◌, List, length, map, min, All, Ok}
 use Rattle.pq_model.specs.declared.marks.Act.{Act}
 use Rattle.pq_model.specs.declared.marks.Mark.{Mark}
+use Rattle.pq_model.specs.Limits.{max_seats}
 use Rattle.pq_model.specs.History.{IsLegal, left}
 use Rattle.pq_tape.specs.HistoryText.{HasLine, history_text}
 use Rattle.inst_text.specs.Script.{script_of}
 use Rattle.pq_api.specs.Plain.{Plain, held}
+use Rattle.pq_lanes.specs.Tracing.{IsTraceOf}
+use Rattle.pq_cli.specs.declared.command.Which.{Which}
+use Rattle.pq_cli.specs.declared.command.Which.TheVariants as queues
 
--- A legal history of a queue of this capacity with one seat. Its marks are these commands, in order, each once, and
--- nothing else.
-pub record IsTraceOf (capacity : ℕ) (acts : List Act) (marks : List Mark) : Type 0 where
-  pub acts_are : map (λ (x : Mark). x.act) marks ≡ acts
-  pub seats : All (λ (x : Mark). x.seat ≡ 1) marks
-  pub legal : IsLegal 1 capacity marks
+-- how many lanes a script may have on a queue of this capacity
+abbrev pub lanes_on : Which → ℕ → ℕ
+lanes_on queues.Plain capacity = 1
+lanes_on queues.Hunt capacity = min max_seats capacity
 
--- The text of the history of the script that was read, and of how many entries it leaves.
-pub record IsTraced (capacity : ℕ) (bytes text : List ℕ) : Type 0 where
-  pub acts : List Act
+-- The text of a history of the script that was read, where so many lanes are allowed, and of how many entries it
+-- leaves.
+pub record IsTraced (allowed capacity : ℕ) (bytes text : List ℕ) : Type 0 where
+  pub script : List (List Act)
   pub marks : List Mark
-  pub reads : script_of 1 bytes ≡ Ok (acts ∷ [])
-  pub trace : IsTraceOf capacity acts marks
-  pub written : text ≡ history_text (record { seats = 1; capacity = capacity }) marks (length (left marks))
+  pub reads : script_of allowed bytes ≡ Ok script
+  pub trace : IsTraceOf capacity script marks
+  pub written : text ≡ history_text (record { seats = length script; capacity = capacity }) marks (length (left marks))
 
--- So far these commands were run, and the pass holds what the history leaves.
+-- So far these commands were run on a queue of one seat, and the pass holds what the history leaves.
 pub record IsTracing (capacity : ℕ) (acts : List Act) (marks : List Mark) (pass : Plain) : Type 0 where
-  pub trace : IsTraceOf capacity acts marks
+  pub acts_are : map (λ (x : Mark). x.act) marks ≡ acts
+  pub legal : IsLegal 1 capacity marks
   pub lines : All (λ (x : Mark). HasLine x.act x.reply) marks
   pub held_is : held pass ≡ left marks
   pub calls : length pass.known.calls ≡ length acts

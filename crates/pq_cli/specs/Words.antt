@@ -9,7 +9,7 @@ use Rattle.pq_cli.specs.declared.command.Kind.TheVariants.{Knapsack, Shop}
 use Rattle.pq_cli.specs.declared.command.Branching.{Branching}
 use Rattle.pq_cli.specs.declared.command.Branching.TheVariants.{Dispatch, Active}
 use Rattle.pq_cli.specs.declared.command.Which.{Which}
-use Rattle.pq_cli.specs.declared.command.Which.TheVariants.{Plain}
+use Rattle.pq_cli.specs.declared.command.Which.TheVariants.{Plain, Hunt}
 use Rattle.pq_cli.specs.declared.words.settings.Settings.{Settings}
 
 infixl 10 ◌>>=◌
@@ -39,7 +39,10 @@ branching_of word =
 
 -- the queue of this name
 abbrev pub which_of : List ℕ → Option Which
-which_of word = if bytes_eq word (codes "plain") then Some Plain else None
+which_of word =
+    if bytes_eq word (codes "plain") then Some Plain
+    else if bytes_eq word (codes "hunt") then Some Hunt
+    else None
 
 abbrev pub ok_of : Result ℕ Cause → Option ℕ
 ok_of (Ok n) = Some n

@@ -1,5 +1,5 @@
 -- What a command is to do, and why it has no answer to an input.
-use Rattle.std.specs.Prelude.{ℕ, ◌≡◌, ◌*◌, ◌<◌, ◌≤◌, nat_le, min, if◌then◌else◌, List, length, Option, Some, None}
+use Rattle.std.specs.Prelude.{ℕ, ◌≡◌, ◌≤◌, nat_le, min, if◌then◌else◌, List, length, Option, Some, None}
 use Rattle.std.specs.Prelude.{IfSome, MatchOption, Result, Ok, Err}
 use Rattle.pq_io.specs.declared.text.fault.BadInput.{BadInput}
 use Rattle.pq_io.specs.Inputs.{longest_input, too_large}
@@ -70,7 +70,8 @@ Explains work bytes refusals.ProofLimit = work.IsTooLong bytes
 abbrev pub IsPlanned : {N P : Type 0} → Meaning N P → ℕ → ℕ → Result P Refusal → Type 0
 IsPlanned m nodes capacity (Ok plan) = IsBestPlan m plan × LeaveRoom m.tree m.least nodes capacity
 IsPlanned m nodes capacity (Err (refusals.BadInput fault)) = ⊥
-IsPlanned m nodes capacity (Err (refusals.NodeLimit asked limit)) = IsOverLimit (needed m.tree m.least) nodes asked limit
+IsPlanned m nodes capacity (Err (refusals.NodeLimit asked limit)) =
+    IsOverLimit (needed m.tree m.least) nodes asked limit
 IsPlanned m nodes capacity (Err (refusals.Full place)) = IsFullAt (needed m.tree m.least) nodes capacity place
 IsPlanned m nodes capacity (Err refusals.ReadFault) = ⊥
 IsPlanned m nodes capacity (Err refusals.NoMemory) = Unit {0}

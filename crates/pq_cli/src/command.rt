@@ -12,14 +12,17 @@ pub enum Kind {
 pub enum Branching {
     /// As the problem's first way is: a knapsack by its items, a shop by dispatching.
     Dispatch,
-    /// A shop by active schedules, with bounds over one machine's heads and tails.
+    /// A shop by the jobs that compete for one machine, with bounds over one machine's heads and tails.
     Active,
 }
 
 /// Which queue a command uses.
 #[derive(Clone, Copy, Debug, PartialEq, Eq)]
 pub enum Which {
+    /// A sorted multiset with one caller.
     Plain,
+    /// The heap whose nodes have locks of their own, with up to 16 callers.
+    Hunt,
 }
 
 /// A command of the program, with the defaults filled in.

@@ -1,10 +1,11 @@
 //! The commands, each from its input to an answer or a refusal. The problem that a command names is chosen here, and
 //! nowhere else.
 
-ghost use Rattle.std.specs.Prelude.{◌≤◌, IfOk, IfErr, length};
+ghost use Rattle.std.specs.Prelude.{◌≡◌, ◌≤◌, IfOk, IfErr, length};
+ghost use Rattle.pq_model.specs.Limits.{max_seats, max_capacity};
 ghost use Rattle.pq_io.specs.Inputs.{longest_input};
 ghost use Rattle.pq_cli.specs.Answers.{status_in, text_in, IsWritable};
-ghost use Rattle.pq_cli.specs.CommandWords.{HasLimits, HasTaskLimits};
+ghost use Rattle.pq_cli.specs.CommandWords.{HasLimits, HasTaskLimits, IsStill};
 ghost use Rattle.pq_cli.specs.Commands.{work_of, used_work, task_work};
 ghost use Rattle.pq_cli.specs.Problems.{used};
 ghost use Rattle.pq_cli.specs.Runs.{Answers, Stops};
@@ -21,27 +22,31 @@ mod trace;
 mod verify;
 
 use crate::answer::Answer;
-use crate::command::{Branching, Command, Kind};
+use crate::command::{Branching, Command, Kind, Which};
 use crate::commands::audit::audit;
 use crate::commands::bound::bound;
 use crate::commands::check::check;
 use crate::commands::prove::prove;
 use crate::commands::solve::solve;
 use crate::commands::task::Task;
-use crate::commands::trace::trace;
+use crate::commands::trace::{trace, trace_on};
 use crate::commands::verify::verify;
 use crate::problem::UsedProblem;
 use crate::refusal::Refusal;
 use bb_knap::Knapsack;
 use bb_onemach::ActiveShop;
 use bb_shop::Shop;
+use pq_api::BoundedQueue;
 use pq_io::{Source, gather_input};
 use std::alloc::Global;
+use std::sync::Wait;
+use std::thread::Threads;
 
-/// What the command answers to the input.
+/// What the command answers to the input, where it needs no threads.
 #[tactic(auto, using(crate::proofs::Explained::input_stops, crate::proofs::Explained::work_stops))]
 pub fn respond<I: Source>(alloc: Global, command: Command, input: &mut I) -> Result<Answer, Refusal>
-    requires { HasLimits command }
+    requires limits { HasLimits command }
+    requires still { IsStill command }
     ensures answers { IfOk result (λ a.
         Answers (work_of command) (status_in a) (text_in a) (change I.left I.faults input.old input.new)) }
     ensures writable { IfOk result IsWritable }
@@ -51,9 +56,51 @@ pub fn respond<I: Source>(alloc: Global, command: Command, input: &mut I) -> Res
     respond_to(alloc, command, &bytes)
 }
 
-// What the command answers to these bytes.
+/// What the command answers to the input, where a queue of several callers is of this kind.
+#[tactic(auto, using(crate::proofs::Explained::input_stops, crate::proofs::Explained::work_stops))]
+pub fn respond_on<Rt: Threads + Wait + Sync, H: BoundedQueue, I: Source>(
+    rt: &Rt,
+    alloc: Global,
+    command: Command,
+    input: &mut I,
+    gate: H::Gate,
+) -> Result<Answer, Refusal>
+    requires limits { HasLimits command }
+    requires heap { (H.SEATS ≡ max_seats) × (H.CAPACITY ≡ max_capacity) }
+    ensures answers { IfOk result (λ a.
+        Answers (work_of command) (status_in a) (text_in a) (change I.left I.faults input.old input.new)) }
+    ensures writable { IfOk result IsWritable }
+    ensures stops { IfErr result (Stops (work_of command) (change I.left I.faults input.old input.new)) }
+{
+    let bytes = gather_input(alloc, input)?;
+    respond_to_on::<Rt, H>(rt, alloc, command, &bytes, gate)
+}
+
+// What the command answers to these bytes, where a queue of several callers is of this kind.
+fn respond_to_on<Rt: Threads + Wait + Sync, H: BoundedQueue>(
+    rt: &Rt,
+    alloc: Global,
+    command: Command,
+    bytes: &[u8],
+    gate: H::Gate,
+) -> Result<Answer, Refusal>
+    requires limits { HasLimits command }
+    requires heap { (H.SEATS ≡ max_seats) × (H.CAPACITY ≡ max_capacity) }
+    ensures { Meets (work_of command) bytes.now result }
+{
+    match command {
+        Command::Trace {
+            queue: Which::Hunt,
+            capacity,
+        } => trace_on::<Rt, H>(rt, alloc, bytes, capacity, gate),
+        _ => respond_to(alloc, command, bytes),
+    }
+}
+
+// What the command answers to these bytes, where it needs no threads.
 fn respond_to(alloc: Global, command: Command, bytes: &[u8]) -> Result<Answer, Refusal>
-    requires { HasLimits command }
+    requires limits { HasLimits command }
+    requires still { IsStill command }
     ensures { Meets (work_of command) bytes.now result }
 {
     match command {
@@ -84,7 +131,14 @@ fn respond_to(alloc: Global, command: Command, bytes: &[u8]) -> Result<Answer, R
             ..
         } => prove(alloc, bytes, nodes, capacity),
         Command::Verify => verify(alloc, bytes),
-        Command::Trace { capacity, .. } => trace(alloc, bytes, capacity),
+        Command::Trace {
+            queue: Which::Plain,
+            capacity,
+        } => trace(alloc, bytes, capacity),
+        Command::Trace {
+            queue: Which::Hunt,
+            ..
+        } => unreachable!(),
         Command::Audit => audit(alloc, bytes),
     }
 }

@@ -1,6 +1,6 @@
 //! Laws of the commands together.
 
-ghost use Rattle.std.specs.Prelude.{ℕ, ◌≡◌, List};
+ghost use Rattle.std.specs.Prelude.{ℕ, ◌≡◌, List, [], ◌∷◌};
 ghost use Rattle.pq_model.specs.declared.marks.Act.{Act};
 ghost use Rattle.pq_model.specs.declared.marks.Mark.{Mark};
 ghost use Rattle.pq_cli.specs.declared.command.Branching.{Branching};
@@ -9,7 +9,7 @@ ghost use Rattle.pq_cli.specs.declared.command.Kind.{Kind};
 ghost use Rattle.pq_cli.specs.declared.command.Kind.TheVariants as kinds;
 ghost use Rattle.pq_cli.specs.Problems.{used, IsCheckable};
 ghost use Rattle.pq_cli.specs.Proving.{AreVerified};
-ghost use Rattle.pq_cli.specs.Tracing.{IsTraceOf};
+ghost use Rattle.pq_lanes.specs.Tracing.{IsTraceOf};
 
 use bb_knap::{best_is_cheapest, value_and_cost_are_all};
 use bb_proof::{accepted_have_no_bad_token, canonical_is_accepted, proofs_are_read_behind};
@@ -18,12 +18,11 @@ use inst_text::{
     choices_are_read_behind, knapsack_texts_are_read, shop_texts_are_read, starts_are_read_behind,
 };
 
-/// Law: on a queue of one seat and this capacity, these commands have one history. So what `trace` writes is a function of
-/// its input and its words.
-#[tactic(auto, using(crate::proofs::OneTrace::traces_are_one))]
+/// Law: a script of one lane has one history on a queue of this capacity, whichever queue it is. So what `trace`
+/// writes for it is a function of its input and its words.
 pub fn traces_are_one()
     ensures { (capacity : ℕ) (acts : List Act) (h k : List Mark) →
-        IsTraceOf capacity acts h → IsTraceOf capacity acts k → h ≡ k }
+        IsTraceOf capacity (acts ∷ []) h → IsTraceOf capacity (acts ∷ []) k → h ≡ k }
 {}
 
 /// Law: what `solve` answers to an instance, `check` finds feasible behind it: behind any text of the instance that
@@ -36,8 +35,8 @@ pub fn solutions_are_checked()
     active_schedules_are_checked();
 }
 
-/// Law: what `prove` writes for a knapsack, `verify` answers as proved behind it: behind any text of the knapsack that ends
-/// with a line feed, if the two together are not too long for an input.
+/// Law: what `prove` writes for a knapsack, `verify` answers as proved behind it: behind any text of the knapsack
+/// that ends with a line feed, if the two together are not too long for an input.
 pub fn proofs_are_verified()
     ensures { AreVerified }
 {

@@ -11,7 +11,7 @@ mod problem;
 mod problems;
 mod refusal;
 mod reporting;
-mod run;
+mod running;
 mod status;
 #[cfg(test)]
 mod tests;
@@ -20,6 +20,6 @@ mod words;
 pub use command::{Branching, Command, Kind, Which};
 pub use laws::{proofs_are_verified, solutions_are_checked, traces_are_one};
 pub use reporting::report;
-pub use run::run_still;
+pub use running::{run, run_on, run_still};
 pub use status::Status;
 pub use words::{WordsRefusal, read_words, settings_are_said};

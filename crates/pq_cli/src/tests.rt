@@ -7,6 +7,7 @@ use std::process::Abort;
 use std::test::Fail;
 
 mod answers;
+mod lanes;
 mod refusals;
 
 const THREE_ITEMS: &str = "3 5\n2 3\n3 4\n4 5\n";

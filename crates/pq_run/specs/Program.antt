@@ -8,7 +8,7 @@ use Rattle.std.specs.Vec.Iter.{into_iter_items}
 use Rattle.pq_cli.specs.declared.status.Status.{Status}
 use Rattle.pq_cli.specs.declared.status.Status.TheVariants as statuses
 use Rattle.pq_cli.specs.Statuses.{code_of}
-use Rattle.pq_cli.specs.CommandWords.{texts}
+use Rattle.pq_cli.specs.CommandWords.{texts, command_of}
 use Rattle.pq_cli.specs.Runs.{IsRunAndReported, IsReported}
 use Rattle.pq_cli.specs.Streams.{Change, IsSame}
 
@@ -22,7 +22,7 @@ pub record IsEnded {I O E : Type 0} (words : List (List ℕ)) (code : ExitCode)
     (input : Change I) (output : Change O) (faults : Change E) : Type 0 where
   pub status : Status
   pub code_is : exit_status code ≡ code_of status
-  pub ran : IsRunAndReported words status input output faults
+  pub ran : IsRunAndReported (command_of words) status input output faults
 
 -- There was no memory for the words. This was reported, and the program ended with the status of it.
 pub record IsEndedWithoutWords {I O E : Type 0} (code : ExitCode)

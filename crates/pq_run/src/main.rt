@@ -11,6 +11,7 @@ use std::process::ExitCode;
 
 fn main(rt: HostRuntime) -> ExitCode {
     run(
+        &rt,
         rt.alloc(),
         env::args(&rt),
         &mut StdSource::new(rt.stdin()),

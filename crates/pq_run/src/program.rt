@@ -7,19 +7,23 @@ ghost use Rattle.pq_cli.specs.Streams.{change};
 ghost use Rattle.pq_run.specs.Program.{words_given, IsEnded, IsEndedWithoutWords};
 
 use crate::streams::{Answers, Faults};
-use pq_cli::{Status, report, run_still};
+use pq_api::Open;
+use pq_cli::{Status, report};
 use pq_io::Source;
 use std::alloc::{AllocError, Global};
 use std::env::Args;
 use std::io;
 use std::io::ErrorKind;
 use std::process::ExitCode;
+use std::sync::Wait;
+use std::thread::Threads;
 
 /// Runs the command that the given words say, and gives what the program ends with.
 ///
 /// Words that are no text are those of no command. Where there is no memory for the words, that is reported as the
 /// top call reports it.
-pub(crate) fn run<I: Source, O: Answers, E: Faults>(
+pub(crate) fn run<Rt: Threads + Wait + Sync, I: Source, O: Answers, E: Faults>(
+    rt: &Rt,
     alloc: Global,
     given: io::Result<Args>,
     input: &mut I,
@@ -36,7 +40,10 @@ pub(crate) fn run<I: Source, O: Answers, E: Faults>(
         (change E.written E.faults faults.old faults.new) }
 {
     match words_of(alloc, given) {
-        Ok(all) => exit_code(run_still(alloc, behind_the_name(&all), input, output, faults)),
+        Ok(all) => {
+            let words = behind_the_name(&all);
+            exit_code(pq_cli::run(rt, alloc, words, input, output, faults, &Open))
+        }
         Err(AllocError) => exit_code(report(Status::NoMemory, faults)),
     }
 }

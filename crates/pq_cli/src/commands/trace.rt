@@ -1,6 +1,6 @@
-//! `trace`: the history of a script that one caller runs on a queue.
+//! `trace`: the history of a script that is run on a queue.
 
-ghost use Rattle.std.specs.Prelude.{◌≡◌, ◌+◌, ◌-◌, ◌<◌, ◌≤◌, ◌++◌, [], ◌∷◌, length, OnOk, ℕ, List};
+ghost use Rattle.std.specs.Prelude.{◌≡◌, ◌+◌, ◌-◌, ◌<◌, ◌≤◌, ◌++◌, [], ◌∷◌, length, min, IfOk, OnOk, ℕ, List};
 ghost use Rattle.std.specs.List.{AllByRecursion};
 ghost use Rattle.pq_model.specs.declared.marks.Act.{Act};
 ghost use Rattle.pq_model.specs.Limits.{max_capacity};
@@ -8,8 +8,9 @@ ghost use Rattle.pq_model.specs.History.{IsStep, after};
 ghost use Rattle.pq_model.specs.Passes.{fresh};
 ghost use Rattle.pq_api.specs.Limits.{call_limit};
 ghost use Rattle.pq_api.specs.Plain.{held};
-ghost use Rattle.inst_text.specs.Limits.{command_limit};
-ghost use Rattle.inst_text.specs.Script.{IsCommand};
+ghost use Rattle.inst_text.specs.Limits.{max_commands};
+ghost use Rattle.pq_io.specs.Reading.{Gives};
+ghost use Rattle.inst_text.specs.Script.{IsCommand, script_of};
 ghost use Rattle.pq_cli.specs.Commands.{tracing};
 ghost use Rattle.pq_cli.specs.Tracing.{IsTracing};
 ghost use Rattle.pq_cli.specs.Work.{Meets};
@@ -18,18 +19,52 @@ use crate::answer::Answer;
 use crate::plain::plain_pass;
 use crate::refusal::Refusal;
 use inst_text::{Script, read_script};
-use pq_api::{Below, Inserted, PlainPass, Removed, sizes_are_bounded};
-use pq_io::NoMemory;
+use pq_api::{BoundedQueue, PlainPass, sizes_are_bounded};
+use pq_io::{NoMemory, ReadRefusal};
+use pq_lanes::{answer_to_insert, answer_to_remove, answer_to_remove_below, trace_script};
 use pq_model::{Act, Mark, Reply};
 use pq_tape::{Head, History};
 use std::alloc::Global;
+use std::sync::Wait;
+use std::thread::Threads;
 
-/// The history of the script that the bytes read as, run on a plain queue of this capacity.
+/// A history of the script that the bytes read as, run on a queue of this kind and capacity by one caller for each
+/// lane. There may be as many lanes as the queue has seats, and no more than the capacity.
+pub fn trace_on<Rt: Threads + Wait + Sync, Q: BoundedQueue>(
+    rt: &Rt,
+    alloc: Global,
+    bytes: &[u8],
+    capacity: u32,
+    gate: Q::Gate,
+) -> Result<Answer, Refusal>
+    requires { (1 ≤ capacity) × (capacity ≤ Q.CAPACITY) }
+    ensures { Meets (tracing (min Q.SEATS capacity) capacity) bytes.now result }
+{
+    let script = read_lanes::<Q>(alloc, bytes, capacity)?;
+    let history = trace_script::<Rt, Q>(rt, alloc, &script, capacity, gate)?;
+    Ok(Answer::Trace(history))
+}
+
+// The script that the bytes read as, of as many lanes as there may be on a queue of this kind and capacity.
+fn read_lanes<Q: BoundedQueue>(
+    alloc: Global,
+    bytes: &[u8],
+    capacity: u32,
+) -> Result<Script, ReadRefusal>
+    requires { 1 ≤ capacity }
+    ensures exact { Gives (λ s. s) result (script_of (min Q.SEATS capacity) bytes.now) }
+    ensures few { IfOk result (λ s. (length s ≤ Q.SEATS) × (length s ≤ capacity)) }
+{
+    let script = read_script(alloc, bytes, Q::SEATS.min(capacity))?;
+    Ok(script)
+}
+
+/// The history of the script that the bytes read as, run on a plain queue of this capacity by the caller itself.
 ///
 /// All memory is taken before the first call of the queue. A command takes O(log n) where n entries are held.
 pub fn trace(alloc: Global, bytes: &[u8], capacity: u32) -> Result<Answer, Refusal>
     requires { (1 ≤ capacity) × (capacity ≤ max_capacity) }
-    ensures { Meets (tracing capacity) bytes.now result }
+    ensures { Meets (tracing 1 capacity) bytes.now result }
 {
     let script = read_script(alloc, bytes, 1)?;
     let acts = only_lane(&script);
@@ -56,7 +91,7 @@ fn only_lane(script: &Script) -> &[Act]
 // Runs the commands in order, and puts the mark of each behind those of the others, for which there is room.
 fn run_lane(marks: &mut Vec<Mark>, pass: &mut PlainPass, acts: &[Act]) -> Result<(), NoMemory>
     requires commands { AllByRecursion IsCommand acts.now }
-    requires few { length acts.now ≤ command_limit }
+    requires few { length acts.now ≤ max_commands }
     requires fresh { (pass.old.known ≡ fresh 1) × (marks.old.items ≡ []) }
     ensures { OnOk result (IsTracing pass.old.capacity acts.now marks.new.items pass.new) }
 {
@@ -71,7 +106,8 @@ fn run_command(marks: &mut Vec<Mark>, pass: &mut PlainPass, act: Act) -> Result<
     requires command { IsCommand act }
     requires few { length pass.old.known.calls < call_limit - 1 }
     ensures { OnOk result ((capacity : ℕ) (acts : List Act) →
-        IsTracing capacity acts marks.old.items pass.old → IsTracing capacity (acts ++ act ∷ []) marks.new.items pass.new) }
+        IsTracing capacity acts marks.old.items pass.old →
+        IsTracing capacity (acts ++ act ∷ []) marks.new.items pass.new) }
 {
     let reply = reply_to(pass, act);
     marks.push(Mark {
@@ -92,18 +128,8 @@ fn reply_to(pass: &mut PlainPass, act: Act) -> Reply
     ensures capacity { pass.new.capacity ≡ pass.old.capacity }
 {
     match act {
-        Act::Insert(entry) => match pass.add(entry) {
-            Inserted::Done(_) => Reply::Done,
-            Inserted::Full(_) => Reply::Full,
-        },
-        Act::Remove => match pass.take() {
-            Removed::Got(entry, _) => Reply::Got(entry),
-            Removed::Empty(_) => Reply::Empty,
-        },
-        Act::RemoveBelow(limit) => match pass.take_below(limit) {
-            Below::Got(entry, _) => Reply::Got(entry),
-            Below::Empty(_) => Reply::Empty,
-            Below::Above(_) => Reply::Above,
-        },
+        Act::Insert(entry) => answer_to_insert(pass.add(entry)).reply,
+        Act::Remove => answer_to_remove(pass.take()).reply,
+        Act::RemoveBelow(limit) => answer_to_remove_below(pass.take_below(limit)).reply,
     }
 }

@@ -2,7 +2,8 @@
 
 ghost use Rattle.std.specs.Prelude.{◌≡◌, ◌==◌, ◌<◌, length, position, IfSome};
 ghost use Rattle.std.specs.Option.{option_map};
-ghost use Rattle.pq_cli.specs.Words.{kind_of, branching_of, which_of, number_in, once, with_kind, with_branching, with_queue, with_workers};
+ghost use Rattle.pq_cli.specs.Words.{kind_of, branching_of, which_of, number_in, once, with_kind, with_branching};
+ghost use Rattle.pq_cli.specs.Words.{with_queue, with_workers};
 ghost use Rattle.pq_cli.specs.Words.{with_nodes, with_capacity, with_option, with_lone, behind_dashes, split_at_equals};
 ghost use Rattle.pq_cli.specs.Words.{pair_name};
 
@@ -42,6 +43,8 @@ fn which_of(word: &[u8]) -> Option<Which>
 {
     if word == b"plain".as_slice() {
         Some(Which::Plain)
+    } else if word == b"hunt".as_slice() {
+        Some(Which::Hunt)
     } else {
         None
     }

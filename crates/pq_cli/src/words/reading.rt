@@ -2,10 +2,11 @@
 
 ghost use Rattle.std.specs.Prelude.{◌≡◌, ◌<◌, ◌≤◌, [], ◌∷◌, length, IfOk, IfSome, MatchOption};
 ghost use Rattle.pq_cli.specs.Words.{settings_from, is_unlimited, is_silent};
-ghost use Rattle.pq_cli.specs.CommandWords.{HasLimits, answer_of, command_of, texts, within, branching_for, solve_from, kind_alone};
+ghost use Rattle.pq_cli.specs.CommandWords.{HasLimits, IsStill, still_alone, answer_of, command_of, texts, within};
+ghost use Rattle.pq_cli.specs.CommandWords.{branching_for, searched, solve_from, kind_alone};
 ghost use Rattle.pq_cli.specs.CommandWords.{bound_from, check_from, prove_from, verify_from, trace_from, audit_from};
 
-use crate::command::{Branching, Command, Kind};
+use crate::command::{Branching, Command, Kind, Which};
 use crate::words::options::{pair_name, with_lone, with_option};
 use crate::words::settings::Settings;
 use bb_pool::MAX_NODES;
@@ -36,6 +37,21 @@ pub fn read_words(_alloc: Global, words: &[String]) -> Result<Command, WordsRefu
     ensures limits { IfOk result HasLimits }
 {
     command_of(words).ok_or(WordsRefusal::BadWords)
+}
+
+/// The command, where it needs no threads.
+pub fn still_alone(command: Command) -> Option<Command>
+    ensures exact { result ≡ still_alone command }
+    ensures still { IfSome result IsStill }
+    ensures same { IfSome result (λ c. c ≡ command) }
+{
+    match command {
+        Command::Trace {
+            queue: Which::Hunt,
+            ..
+        } => None,
+        _ => Some(command),
+    }
 }
 
 // The command that the words say.
@@ -102,7 +118,7 @@ fn within(low: u64, high: u64, number: u64) -> Option<u64>
     }
 }
 
-// A queue has to be named, since the queue of choice is not built yet.
+// A queue has to be named, since no search runs on the queue of choice yet.
 #[tactic(auto, unfolding(crate::specs::CommandWords::solve_from))]
 fn solve_from(said: Settings) -> Option<Command>
     ensures exact { result ≡ solve_from said }
@@ -110,7 +126,7 @@ fn solve_from(said: Settings) -> Option<Command>
 {
     let kind = said.kind?;
     let branching = branching_for(kind, said.branching)?;
-    let queue = said.queue?;
+    let queue = searched(said.queue?)?;
     let workers = within(1, 1, said.workers.unwrap_or(1))?;
     let nodes = within(1, u64::from(MAX_NODES), said.nodes.unwrap_or(DEFAULT_NODES))?;
     let capacity = within(
@@ -126,6 +142,16 @@ fn solve_from(said: Settings) -> Option<Command>
         nodes: nodes as u32,
         capacity: capacity as u32,
     })
+}
+
+// The queues that a search runs on.
+fn searched(queue: Which) -> Option<Which>
+    ensures { result ≡ searched queue }
+{
+    match queue {
+        Which::Plain => Some(Which::Plain),
+        Which::Hunt => None,
+    }
 }
 
 // Only a shop has two ways to branch; where none is said, it is by dispatching.
@@ -226,7 +252,7 @@ fn trace_from(said: Settings) -> Option<Command>
     ensures exact { result ≡ trace_from said }
     ensures limits { IfSome result HasLimits }
 {
-    let queue = said.queue?;
+    let queue = said.queue.unwrap_or(Which::Hunt);
     let capacity = said.capacity.unwrap_or(DEFAULT_CAPACITY);
     let capacity = within(1, u64::from(MAX_CAPACITY), capacity)?;
     if said.kind.is_none()

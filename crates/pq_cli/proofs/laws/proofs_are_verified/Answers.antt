@@ -1,14 +1,14 @@
-use Rattle.std.proofs.Common.{◌≡◌, ◌≤◌, ◌++◌, [], ◌∷◌, ◌∙◌, ℕ, zero, suc, List, length, Bool, true, false, nat_le, if◌then◌else◌, refl, ap, subst, arith}
+use Rattle.std.proofs.Common.{◌≤◌, ◌++◌, [], ◌∷◌, ◌∙◌, ℕ, zero, suc, List, length, Bool, true, false, nat_le, if◌then◌else◌, refl, ap, subst, arith}
 use Rattle.std.specs.List.{flat_map}
 use Rattle.pq_io.specs.Inputs.{longest_input}
-use Rattle.inst_text.specs.Limits.{stated_limit}
+use Rattle.inst_text.specs.Limits.{max_stated}
 use Rattle.inst_text.specs.declared.plan.Claimed.{Claimed}
 use Rattle.bb_problem.specs.Tree.{Tree, below}
 use Rattle.bb_knap.specs.Plans.{value_of, cost_of, IsCheapest}
 use Rattle.bb_knap.specs.Branching.{tree_of}
 use Rattle.bb_proof.specs.declared.verdict.ProofVerdict.TheVariants.{Proved}
-use Rattle.bb_proof.specs.Tokens.{canonical, canonical_from}
-use Rattle.bb_proof.specs.Texts.{proof_of, proof_text}
+use Rattle.bb_proof.specs.Tokens.{canonical_from}
+use Rattle.bb_proof.specs.Texts.{proof_of}
 use Rattle.pq_cli.specs.Proving.{proof_for}
 use Rattle.pq_cli.proofs.laws.proofs_are_verified.Goals as goal
 
@@ -30,7 +30,7 @@ returns c = λ nodes capacity bytes text s size.
     let cost = cost_of i s.choice in
     let feasible = s.best.feasible in
     let is = (c.knapsack_texts_are_read.ensures (bytes ++ 10 ∷ []) i).0 s.reads in
-    let limit : value ≤ stated_limit = omega (arith, c.value_and_cost_are_all.ensures i s.choice feasible.chosen, is.limits.values) in
+    let limit : value ≤ max_stated = omega (arith, c.value_and_cost_are_all.ensures i s.choice feasible.chosen, is.limits.values) in
     let some = some_token (tree_of i) cost (tree_of i).height [] in
     let read = c.proofs_are_read_behind.ensures bytes i claimed tokens is limit feasible.chosen some s.few
     (subst (λ (t : List ℕ). length (bytes ++ 10 ∷ t) ≤ longest_input) s.written size) in

@@ -1,5 +1,5 @@
 use Rattle.pq_cli.proofs.Ending.{answered_whole, completed}
-use Rattle.pq_cli.proofs.run.run_still.Goals as goal
+use Rattle.pq_cli.proofs.running.run_still.Goals as goal
 
 pub returns-clause-ran : goal.returns-clause-ran
 returns-clause-ran g c = record { status = c.run_words.result; ran = c.run_words.ensures; reported = c.report.ensures }

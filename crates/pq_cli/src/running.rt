@@ -1,0 +1,185 @@
+//! The top call.
+
+ghost use Rattle.std.specs.Prelude.{◌≡◌, Some};
+ghost use Rattle.pq_model.specs.Limits.{max_seats, max_capacity};
+ghost use Rattle.pq_cli.specs.declared.command.Command.{Command};
+ghost use Rattle.pq_cli.specs.Answers.{status_in, text_in, IsWritable};
+ghost use Rattle.pq_cli.specs.CommandWords.{command_of, still_command_of, texts};
+ghost use Rattle.pq_cli.specs.Commands.{work_of};
+ghost use Rattle.pq_cli.specs.Runs.{IsRun, IsRunAndReported, IsAnsweredWhole, IsComplete, IsWritten};
+ghost use Rattle.pq_cli.specs.Statuses.{IsAnswered};
+ghost use Rattle.pq_cli.specs.Streams.{change};
+
+use crate::answer::Answer;
+use crate::commands::{respond, respond_on};
+use crate::reporting::report;
+use crate::status::Status;
+use crate::words::{read_words, still_alone};
+use pq_api::{BoundedQueue, Gate};
+use pq_hunt::HuntHeap;
+use pq_io::{Failed, Sink, Source, put_all};
+use pq_tape::{History, write_history};
+use std::alloc::Global;
+use std::sync::Wait;
+use std::thread::Threads;
+
+/// Runs the command that the words say, without threads and without waiting. Words that say a command which needs
+/// threads are bad words here.
+///
+/// The words do not hold the program's name. At `Ok` and `Illegal` nothing is written to `faults`, and at each other
+/// status its line.
+pub fn run_still<I: Source, O: Sink, E: Sink>(
+    alloc: Global,
+    words: &[String],
+    input: &mut I,
+    output: &mut O,
+    faults: &mut E,
+) -> Status
+    // The words came to a status, with these marks in the input and the output, and it was reported.
+    ensures ran { IsRunAndReported (still_command_of (texts words.now)) result
+        (change I.left I.faults input.old input.new)
+        (change O.written O.faults output.old output.new)
+        (change E.written E.faults faults.old faults.new) }
+    // So at Ok and Illegal the output has gained the command's answer to all that the input held.
+    ensures answered { IsAnswered result → IsAnsweredWhole (still_command_of (texts words.now)) result
+        (change I.left I.faults input.old input.new)
+        (change O.written O.faults output.old output.new) }
+    // And where there was all that the command needs, there is an answer, or no memory.
+    ensures complete { (c : Command) → still_command_of (texts words.now) ≡ Some c → IsComplete (work_of c) result
+        (change I.left I.faults input.old input.new)
+        (change O.written O.faults output.old output.new)
+        (change E.written E.faults faults.old faults.new) }
+{
+    report(run_words(alloc, words, input, output), faults)
+}
+
+// Runs the command that the words say, and reports nothing.
+fn run_words<I: Source, O: Sink>(
+    alloc: Global,
+    words: &[String],
+    input: &mut I,
+    output: &mut O,
+) -> Status
+    ensures { IsRun (still_command_of (texts words.now)) result
+        (change I.left I.faults input.old input.new)
+        (change O.written O.faults output.old output.new) }
+{
+    let command = match read_words(alloc, words) {
+        Ok(command) => command,
+        Err(refusal) => return Status::from(refusal),
+    };
+    let Some(command) = still_alone(command) else {
+        return Status::BadWords;
+    };
+    match respond(alloc, command, input) {
+        Ok(answer) => write_answer(output, &answer),
+        Err(refusal) => Status::from(refusal),
+    }
+}
+
+/// Runs the command that the words say, with this gate at the points of the queue's calls.
+///
+/// As `run_still` does, which serves the commands that need no threads. `trace` runs each lane of its script in a
+/// thread of its own, and waits for all of them.
+pub fn run<Rt: Threads + Wait + Sync, I: Source, O: Sink, E: Sink, G: Gate>(
+    rt: &Rt,
+    alloc: Global,
+    words: &[String],
+    input: &mut I,
+    output: &mut O,
+    faults: &mut E,
+    gate: &G,
+) -> Status
+    // The words came to a status, with these marks in the input and the output, and it was reported.
+    ensures ran { IsRunAndReported (command_of (texts words.now)) result
+        (change I.left I.faults input.old input.new)
+        (change O.written O.faults output.old output.new)
+        (change E.written E.faults faults.old faults.new) }
+    // So at Ok and Illegal the output has gained the command's answer to all that the input held.
+    ensures answered { IsAnswered result → IsAnsweredWhole (command_of (texts words.now)) result
+        (change I.left I.faults input.old input.new)
+        (change O.written O.faults output.old output.new) }
+    // And where there was all that the command needs, there is an answer, or no memory.
+    ensures complete { (c : Command) → command_of (texts words.now) ≡ Some c → IsComplete (work_of c) result
+        (change I.left I.faults input.old input.new)
+        (change O.written O.faults output.old output.new)
+        (change E.written E.faults faults.old faults.new) }
+{
+    run_on::<Rt, HuntHeap<&G>, I, O, E>(rt, alloc, words, input, output, faults, gate)
+}
+
+/// Runs the command that the words say, where a queue of several callers is of this kind, with this gate.
+///
+/// As `run_still` does, which serves the commands that need no threads. `trace` runs each lane of its script in a
+/// thread of its own, and waits for all of them.
+pub fn run_on<Rt: Threads + Wait + Sync, H: BoundedQueue, I: Source, O: Sink, E: Sink>(
+    rt: &Rt,
+    alloc: Global,
+    words: &[String],
+    input: &mut I,
+    output: &mut O,
+    faults: &mut E,
+    gate: H::Gate,
+) -> Status
+    requires heap { (H.SEATS ≡ max_seats) × (H.CAPACITY ≡ max_capacity) }
+    // The words came to a status, with these marks in the input and the output, and it was reported.
+    ensures ran { IsRunAndReported (command_of (texts words.now)) result
+        (change I.left I.faults input.old input.new)
+        (change O.written O.faults output.old output.new)
+        (change E.written E.faults faults.old faults.new) }
+    // So at Ok and Illegal the output has gained the command's answer to all that the input held.
+    ensures answered { IsAnswered result → IsAnsweredWhole (command_of (texts words.now)) result
+        (change I.left I.faults input.old input.new)
+        (change O.written O.faults output.old output.new) }
+    // And where there was all that the command needs, there is an answer, or no memory.
+    ensures complete { (c : Command) → command_of (texts words.now) ≡ Some c → IsComplete (work_of c) result
+        (change I.left I.faults input.old input.new)
+        (change O.written O.faults output.old output.new)
+        (change E.written E.faults faults.old faults.new) }
+{
+    let status = run_words_on::<Rt, H, I, O>(rt, alloc, words, input, output, gate);
+    report(status, faults)
+}
+
+// Runs the command that the words say, where a queue of several callers is of this kind, and reports nothing.
+fn run_words_on<Rt: Threads + Wait + Sync, H: BoundedQueue, I: Source, O: Sink>(
+    rt: &Rt,
+    alloc: Global,
+    words: &[String],
+    input: &mut I,
+    output: &mut O,
+    gate: H::Gate,
+) -> Status
+    requires heap { (H.SEATS ≡ max_seats) × (H.CAPACITY ≡ max_capacity) }
+    ensures { IsRun (command_of (texts words.now)) result
+        (change I.left I.faults input.old input.new)
+        (change O.written O.faults output.old output.new) }
+{
+    let command = match read_words(alloc, words) {
+        Ok(command) => command,
+        Err(refusal) => return Status::from(refusal),
+    };
+    match respond_on::<Rt, H, I>(rt, alloc, command, input, gate) {
+        Ok(made) => write_answer(output, &made),
+        Err(refusal) => Status::from(refusal),
+    }
+}
+
+// Writes the answer, and gives the status that comes with it where all of it was written.
+fn write_answer<O: Sink>(output: &mut O, answer: &Answer) -> Status
+    requires { IsWritable answer.now }
+    ensures { IsWritten (text_in answer.now) (status_in answer.now) result
+        (change O.written O.faults output.old output.new) }
+{
+    let (written, status) = match answer {
+        Answer::Text { status, text } => (put_all(output, text), *status),
+        Answer::Trace(history) => {
+            let History { head, marks, left } = history;
+            (write_history(*head, marks, *left, output), Status::Ok)
+        }
+    };
+    match written {
+        Ok(()) => status,
+        Err(Failed) => Status::WriteFault,
+    }
+}

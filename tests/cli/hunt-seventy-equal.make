@@ -1,0 +1,1 @@
+cat "${0%/*}/trace-seventy-equal.in"
