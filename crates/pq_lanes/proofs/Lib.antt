@@ -5,3 +5,5 @@ pub mod Joining
 pub mod Scripts
 pub mod Placing
 pub mod Ran
+pub mod Drills
+pub mod MadeDrills

@@ -5,6 +5,7 @@ mod answers;
 mod callers;
 mod ending;
 mod lane;
+mod laws;
 mod running;
 #[cfg(test)]
 mod tests;
@@ -12,5 +13,6 @@ mod tracing;
 
 pub use answers::{Answer, answer_to_insert, answer_to_remove, answer_to_remove_below};
 pub use ending::history_of;
+pub use laws::{drills_leave_nothing, made_scripts_are_drills};
 pub use running::{Lanes, run_lanes};
 pub use tracing::trace_script;
