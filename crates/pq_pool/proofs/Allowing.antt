@@ -1,5 +1,5 @@
 -- Each step of the pool keeps the rule of the table, and tells what it is to tell.
-use Rattle.std.proofs.Common.{◌≡◌, ◌≢◌, ◌⊎◌, ℕ, ◌+◌, ◌-◌, ◌*◌, ◌<◌, Bool, true, false, eqb, List, map, get_or, set, sym, refl, ap, ◌∙◌, subst, inl, inr, arith, ne_eqb, eq-eqb, eqb-true, Contains}
+use Rattle.std.proofs.Common.{◌≡◌, ◌≢◌, ◌⊎◌, ℕ, ◌+◌, ◌-◌, ◌*◌, ◌<◌, Bool, true, false, eqb, List, map, length, get_or, set, sym, refl, ap, ◌∙◌, subst, inl, inr, ⊎_elim, arith, ne_eqb, eq-eqb, eqb-true, Contains, length-set, get_or-set_other}
 use Rattle.std.proofs.lemmas.List.{set-get_or}
 use mathlib.Core.Option.{some, none}
 use lib.ListN.{get_elem?}
@@ -8,7 +8,7 @@ use native.Mathlib.Decide.{ℕ_discrete}
 use mathlib.Core.Logic.{dite}
 use Rattle.atomic_table.specs.Table.{Me, step, keeps, stepped, Allows}
 use Rattle.atomic_table.proofs.Lists.{at_map}
-use Rattle.pq_model.specs.History.{IsSeat}
+use Rattle.pq_model.specs.History.{IsSeat, left}
 use Rattle.pq_seats.specs.declared.views.Limits.{Limits}
 use Rattle.pq_seats.specs.declared.views.Post.{Post}
 use Rattle.pq_seats.specs.declared.views.View.{View}
@@ -16,7 +16,7 @@ use Rattle.pq_seats.specs.Views.{post_of}
 use Rattle.pq_seats.specs.Rules.{Table, Rule, Lawful, Holds, Stands}
 use Rattle.pq_seats.specs.Allowed.{IsOwnChange}
 use Rattle.pq_seats.proofs.Keeps.{untouched, number_in, limits_of}
-use Rattle.pq_seats.proofs.Owning.{own_stays}
+use Rattle.pq_seats.proofs.Owning.{own_stays, front_stays}
 use Rattle.pq_seats.proofs.Lists.{put_here}
 use Rattle.pq_pool.specs.declared.views.PoolState.{PoolState}
 use Rattle.pq_pool.specs.declared.views.PoolView.{PoolView}
@@ -27,11 +27,13 @@ use Rattle.pq_pool.specs.Views.{pinned_on, unpinned, pin_loaded, grace_stored, s
 use Rattle.pq_pool.specs.Builds.{Builds}
 use Rattle.pq_pool.specs.Parts.{PoolPart, pool_view, with_pool_post, with_pool_view}
 use Rattle.pq_pool.specs.PoolLaws.{PoolLaws, MayUnpin, MayMove}
-use Rattle.pq_pool.specs.Steps.{GivenOut, sees_grace, sees_state, sees_pin, stores_grace, stores_state, turns, takes, moves, pins, stands_still, unpins}
+use Rattle.pq_pool.specs.Steps.{Moment, GivenOut, StandsSafely, sees_grace, sees_state, sees_pin, stores_grace, stores_state, turns, takes, moves, pins, looks, unpins}
 use Rattle.pq_pool.specs.FactsStay.Pinning.{pin_stays, pin_stays-counted}
 use Rattle.pq_pool.specs.FactsStay.Seats.{one_seat}
+use Rattle.pq_pool.specs.FactsStay.Framing.{words_stay, words_stay-counted}
+use Rattle.pq_pool.specs.FactsStay.Above.{stand_stays, stand_stays-counted}
 use Rattle.pq_pool.proofs.BuilderSteps as builder
-use Rattle.pq_pool.proofs.Live.{chosen, chosen_passes, passing_chosen}
+use Rattle.pq_pool.proofs.Live.{chosen, chosen_passes, passing_chosen, also, also_cases, also_new, also_old, tests_safe, tested_safe, safe_tests}
 use Rattle.pq_pool.proofs.PassLemmas.{within_list}
 
 module _ {O : Type 0} (R : Rule O) (lawful : Lawful R) (P : PoolPart O) (B : ℕ) (laws : PoolLaws R P B) (k : Limits) where
@@ -66,6 +68,14 @@ module _ {O : Type 0} (R : Rule O) (lawful : Lawful R) (P : PoolPart O) (B : ℕ
         r.1,
       )
 
+  -- the post of a view in a moment in which a seat has it
+  in_moment : (v : View O) (m : Moment R P v) → get_elem? m.posts m.id ≡ some v.post
+  in_moment v m = subst (λ (z : List (Post O)). get_elem? z m.id ≡ some v.post) (sym m.are) (at_map post_of m.table.views m.id v m.here)
+
+  -- in each such moment the chunks on which a pinned seat stands are safe for it
+  stands_safely : (v : View O) → 0 < v.post.number → (pool_view P v).pinned ≡ true → StandsSafely R P v
+  stands_safely v positive is m c on = ((m.facts.pinned m.id v.post (in_moment v m) positive is).safe c on).1
+
   module _ (slots id : ℕ) (me : M) (has : Contains me.0.post.locks builder_word) where
     named : (s : Table O) (h : Holds R k s) → Stands R s id me.0 → Sized (laws.facts k s h).chunks.count k.seats (pool_view P me.0).counted
     named s h at = let t = laws.facts k s h in let x = is_builder s h id me.0 at has in subst (λ (z : PoolState). Sized t.chunks.count k.seats z) (sym x.names) t.sized
@@ -75,7 +85,7 @@ module _ {O : Type 0} (R : Rule O) (lawful : Lawful R) (P : PoolPart O) (B : ℕ
         (λ s h at. let t = laws.facts k s h in let x = is_builder s h id me.0 at has in let e : n ≡ 17 + n - 17 = omega arith in
         let y : ℕ = get_or s.words (17 + n) 0 in
         let one : (y ≡ 0) ⊎ (y ≡ 1) = dite (ℕ_discrete y 0) (λ z. inl z) (λ z. let o = t.loose n seat z in let p = t.pinned o.0 o.1 o.2 (let o3 = o.3 in omega arith) o.4 in inr (ap (λ (q : ℕ). get_or s.words (17 + q) 0) (sym o.3) ∙ p.word)) in (
-          builder.loads_pin t.chunks.count k.seats me.0.post.number t.few_seats s.words (pool_view P me.0) x.sized (named s h at) x.written n y refl _ (set-get_or s.words (17 + n) 0),
+          builder.loads_pin t.chunks.count k.seats me.0.post.number t.few_seats s.words (pool_view P me.0) x.sized (named s h at) x.written n y seat refl _ (set-get_or s.words (17 + n) 0),
           (ap (λ (q : ℕ). let z : M = (with_pool_view P me.0 (pin_loaded (pool_view P me.0) q y), me.1) in z) e, one),
         ))
 
@@ -116,11 +126,11 @@ module _ {O : Type 0} (R : Rule O) (lawful : Lawful R) (P : PoolPart O) (B : ℕ
       given s h at free =
           let x = is_builder s h id me.0 at has in let low = x.seat.0 in
           let e = limits_of R k s h id me.0 at (λ z. omega arith) in
-          let t = laws.facts k s h in
-          let z : IsFree t.counted c = ap (λ (q : PoolState). state_of q c) (sym x.names) ∙ free in record {
-            moment = record { limits = k; named = e; table = s; holds = h; id = id; here = at; posts = map post_of s.views; are = refl; facts = t };
-            free = z;
-            nobody = λ j p to some_number is on. let o = t.pinned j p to some_number is in let safe = o.safe c on in let two = safe.1.0 in omega arith;
+          let is_free : (m : Moment R P me.0) → IsFree m.facts.counted c = λ m. let b = m.facts.held m.id me.0.post (in_moment me.0 m) has in
+          ap (λ (q : PoolState). state_of q c) (sym b.names) ∙ free in record {
+            moment = record { limits = k; named = e; table = s; holds = h; id = id; here = at; posts = map post_of s.views; are = refl; facts = laws.facts k s h };
+            free = is_free;
+            nobody = λ m j p to some_number is on. let z = is_free m in let o = m.facts.pinned j p to some_number is in let safe = o.safe c on in let two = safe.1.0 in omega arith;
           }
 
       pub may_begin : IsFree (pool_view P me.0).counted c → Allows (Holds R k) slots id me (state_word c) (λ _. 1) (λ _. takes R P (step slots (state_word c) 1 0 none) me 1)
@@ -139,21 +149,27 @@ module _ {O : Type 0} (R : Rule O) (lawful : Lawful R) (P : PoolPart O) (B : ℕ
 
   module _ (slots id : ℕ) (me : M) (positive : 0 < me.0.post.number) where
     -- a seat pins itself, and stands on what is live
-    pub may_pin : (pool_view P me.0).pinned ≡ false → ¬ Contains me.0.post.locks builder_word → Allows (Holds R k) slots id me (pin_word me.0.post.number) (λ _. 1) (λ _. pins R P (step slots (pin_word me.0.post.number) 1 0 none) me 1)
-    may_pin loose free s h sized at small =
+    pub may_pin : ¬ Contains me.0.post.locks builder_word → Allows (Holds R k) slots id me (pin_word me.0.post.number) (λ _. 1) (λ _. pins R P (step slots (pin_word me.0.post.number) 1 0 none) me 1)
+    may_pin free s h sized at small =
         let t = laws.facts k s h in
         let n : ℕ = me.0.post.number in
         let ne : n ≢ 0 = λ z. omega arith in
+        let old : PoolView = pool_view P me.0 in
+        let there = at_map post_of s.views id me.0 at in
         let live : ℕ → Bool = λ c. eqb (state_of t.counted c) 2 in
-        let stands : List ℕ = chosen live t.chunks.count in
-        let d : PoolView = pinned_on (pool_view P me.0) stands in
+        let new : List ℕ = chosen live t.chunks.count in
+        let stands : List ℕ = also old.pinned old.stands new in
+        let d : PoolView = pinned_on old stands in
         let w : View O = with_pool_view P me.0 d in
         let seat = number_in R k s h id me.0 at ne in
-        let safe : (c : ℕ) → Contains stands c → (c < t.chunks.count) × IsSafe t.counted n c = λ c on. let r = chosen_passes live t.chunks.count c on in let e = eqb-true (state_of t.counted c) 2 r.1 in (r.0, (omega arith, λ four. absurd (omega arith))) in
+        let safe : (c : ℕ) → Contains stands c → (c < t.chunks.count) × IsSafe t.counted n c = λ c on. ⊎_elim
+        (λ a. let r = chosen_passes live t.chunks.count c a in let e = eqb-true (state_of t.counted c) 2 r.1 in (r.0, (omega arith, λ four. absurd (omega arith))))
+        (λ b. (t.pinned id me.0.post there positive b.0).safe c b.1)
+        (also_cases old.pinned old.stands new c on) in
+        let kept : old.pinned ≡ true → (c : ℕ) → Contains old.stands c → Contains stands c = λ is c on. also_old old.pinned old.stands new c is on in
         let s' : Table O = stepped s (17 + n) 1 id me.1 w keeps in
-        let now : Holds R k s' = own_stays R k lawful s h id me.0 (with_pool_post P me.0.post d) at ne (own_change me.0 d) (17 + n) 1 (omega arith) (no_lock (17 + n) (λ z. omega arith)) (laws.pins k s h id me.0 at positive loose free stands safe) in
+        let now : Holds R k s' = own_stays R k lawful s h id me.0 (with_pool_post P me.0.post d) at ne (own_change me.0 d) (17 + n) 1 (omega arith) (no_lock (17 + n) (λ z. omega arith)) (laws.pins k s h id me.0 at positive free stands safe kept) in
         let apart : (j : ℕ) (q : Post O) → get_elem? (map post_of s.views) j ≡ some q → q.number ≡ n → j ≡ id = λ j q to e. one_seat R k s h id me.0 at ne j q to e in
-        let there = at_map post_of s.views id me.0 at in
         let p' = with_pool_post P me.0.post d in
         let reads = laws.reads me.0.post.own d in
         let after : PoolFacts P.view_of k (set s.words (17 + n) 1) (set (map post_of s.views) id p') = pin_stays P.view_of k s.words (map post_of s.views) t id me.0.post there seat apart free p' refl refl stands reads safe in
@@ -181,28 +197,77 @@ module _ {O : Type 0} (R : Rule O) (lawful : Lawful R) (P : PoolPart O) (B : ℕ
               };
               all = λ c is. let is' : state_of t.counted c ≡ 2 = ap (λ (z : PoolState). state_of z c) (sym counted) ∙ is in
                   let lt = within_list t.counted.states c (omega arith) in let long = t.sized.states in
-                  subst (λ (z : List ℕ). Contains z c) (sym names) (passing_chosen live t.chunks.count c (omega arith) (eq-eqb (state_of t.counted c) 2 is'));
-              only = λ c on. let r = chosen_passes live t.chunks.count c (subst (λ (z : List ℕ). Contains z c) names on) in
-                  ap (λ (z : PoolState). state_of z c) counted ∙ eqb-true (state_of t.counted c) 2 r.1;
+                  subst (λ (z : List ℕ). Contains z c) (sym names) (also_new old.pinned old.stands new c (passing_chosen live t.chunks.count c (omega arith) (eq-eqb (state_of t.counted c) 2 is')));
+              only = λ c on. ⊎_elim
+                  (λ a. let r = chosen_passes live t.chunks.count c a in inl (ap (λ (z : PoolState). state_of z c) counted ∙ eqb-true (state_of t.counted c) 2 r.1))
+                  (λ b. inr b)
+                  (also_cases old.pinned old.stands new c (subst (λ (z : List ℕ). Contains z c) names on));
+              kept = λ is c on. subst (λ (z : List ℕ). Contains z c) (sym names) (kept is c on);
             },
+            stands_safely w positive (ap (λ (z : PoolView). z.pinned) reads),
           ),
         )
 
-    pub may_stand : (pool_view P me.0).pinned ≡ true → Allows (Holds R k) slots id me 0 (λ n. n) (stands_still R P (step slots 0 0 0 none) me)
-    may_stand is s h sized at small =
-        let e = limits_of R k s h id me.0 at (λ z. omega arith) in
+    -- a pinned seat looks, and stands on all that is safe for it
+    pub may_look : (pool_view P me.0).pinned ≡ true → Allows (Holds R k) slots id me 0 (λ x. x) (looks R P (step slots 0 0 0 none) me)
+    may_look is s h sized at small =
         let t = laws.facts k s h in
-        let o = t.pinned id me.0.post (at_map post_of s.views id me.0 at) positive is in (
-          me.0,
+        let n : ℕ = me.0.post.number in
+        let ne : n ≢ 0 = λ z. omega arith in
+        let old : PoolView = pool_view P me.0 in
+        let ps = map post_of s.views in
+        let there = at_map post_of s.views id me.0 at in
+        let o = t.pinned id me.0.post there positive is in
+        let free : ¬ Contains me.0.post.locks builder_word = λ has. let b = t.held id me.0.post there has in let bad : false ≡ true = sym b.unpinned ∙ is in absurd (cc) in
+        let test : ℕ → Bool = λ c. tests_safe (state_of t.counted c) (grace_of t.counted n) in
+        let stands : List ℕ = chosen test t.chunks.count in
+        let d : PoolView = pinned_on old stands in
+        let w : View O = with_pool_view P me.0 d in
+        let p' = with_pool_post P me.0.post d in
+        let safe : (c : ℕ) → Contains stands c → (c < t.chunks.count) × IsSafe t.counted n c = λ c on. let r = chosen_passes test t.chunks.count c on in (r.0, tested_safe (state_of t.counted c) (grace_of t.counted n) r.1) in
+        let come : (c : ℕ) → IsSafe t.counted n c → Contains stands c = λ c f. let low = f.0 in let lt = within_list t.counted.states c (omega arith) in let long = t.sized.states in
+        passing_chosen test t.chunks.count c (omega arith) (safe_tests (state_of t.counted c) (grace_of t.counted n) f.0 f.1) in
+        let x : ℕ = get_or s.words 0 0 in
+        let same : set s.words 0 x ≡ s.words = set-get_or s.words 0 0 in
+        let word : set s.words (17 + n) 1 ≡ s.words = ap (λ (z : ℕ). set s.words (17 + n) z) (sym o.word) ∙ set-get_or s.words (17 + n) 0 in
+        let tied = laws.pins k s h id me.0 at positive free stands safe (λ _ c on. come c (o.safe c on).1) in
+        let s' : Table O = stepped s 0 x id me.1 w keeps in
+        let now : Holds R k s' = front_stays R k lawful s h id me.0 p' at ne (own_change me.0 d) me.0.front x h.counted (inl refl)
+        (subst (λ (z : List ℕ). R.ties k z (set ps id p') (left h.history)) (word ∙ sym same) tied) in
+        let reads = laws.reads me.0.post.own d in
+        let stood : PoolFacts P.view_of k s.words (set ps id p') = stand_stays P.view_of k s.words ps t id me.0.post p' there positive is free refl refl stands reads safe in
+        let other : (i : ℕ) → i ≢ 0 → get_or (set s.words 0 x) i 0 ≡ get_or s.words i 0 = λ i far. get_or-set_other s.words 0 i x 0 far in
+        let long : length (set s.words 0 x) ≡ length s.words = length-set s.words 0 x in
+        let after : PoolFacts P.view_of k (set s.words 0 x) (set ps id p') = words_stay P.view_of k s.words (set ps id p') stood (set s.words 0 x) long
+        (λ i low high. other i (λ z. omega arith)) (λ c lt. other (118 + 69 * c) (λ z. omega arith)) (λ c lt. other (115 + 69 * c) (λ z. omega arith)) in
+        let as_stood : after.counted ≡ stood.counted = words_stay-counted P.view_of k s.words (set ps id p') stood (set s.words 0 x) long
+        (λ i low high. other i (λ z. omega arith)) (λ c lt. other (118 + 69 * c) (λ z. omega arith)) (λ c lt. other (115 + 69 * c) (λ z. omega arith)) in
+        let as_before : stood.counted ≡ t.counted = stand_stays-counted P.view_of k s.words ps t id me.0.post p' there positive is free refl refl stands reads safe in
+        let names : (pool_view P w).stands ≡ stands = ap (λ (z : PoolView). z.stands) reads in
+        let e = limits_of R k s h id me.0 at ne in (
+          w,
           keeps,
           tt,
-          untouched R k s h id me.0 0 at,
+          now,
           (
+            stands,
             refl,
             record {
-              moment = record { limits = k; named = e; table = s; holds = h; id = id; here = at; posts = map post_of s.views; are = refl; facts = t };
-              in_use = λ c on. let f = o.safe c on in f.1.0;
+              moment = record {
+                limits = k;
+                named = e;
+                table = s';
+                holds = now;
+                id = id;
+                here = put_here s.views id me.0 w at;
+                posts = set ps id p';
+                are = sym (map-set post_of s.views id w);
+                facts = after;
+              };
+              all = λ c f. subst (λ (z : List ℕ). Contains z c) (sym names) (come c (subst (λ (z : PoolState). IsSafe z n c) as_before (subst (λ (z : PoolState). IsSafe z n c) as_stood f)));
+              kept = λ c on. subst (λ (z : List ℕ). Contains z c) (sym names) (come c (o.safe c on).1);
             },
+            stands_safely w positive (ap (λ (z : PoolView). z.pinned) reads),
           ),
         )
 

@@ -44,7 +44,7 @@ module _ (k : Limits) where
       let ne : w.post.number ≢ 0 = λ z. numbered (sym number ∙ z) in
       let seat = number_in bench_rule k s h id w at ne in
       let no_pin : w.post.own.pinned ≡ false = ap (λ (z : Post PoolView). z.own.pinned) same.post ∙ loose in
-      let own : PoolView = record { pinned = false; stands = []; stored = t.counted; counted = t.counted; loaded = [] } in
+      let own : PoolView = record { pinned = false; stands = []; looks = 0; stored = t.counted; counted = t.counted; loaded = [] } in
       let p' = with_lock w.post builder_word own in
       let other : (j : ℕ) → j ≢ 17 → get_or (set s.words 17 w.post.number) j 0 ≡ get_or s.words j 0 = λ j ne'. get_or-set_other s.words 17 j w.post.number 0 ne' in (
         own,
@@ -52,6 +52,9 @@ module _ (k : Limits) where
           all = record { chunks = t.chunks; stored = t.sized; counted = t.sized };
           agrees = record { states = λ c. refl; grace = λ n seat'. refl };
           unpinned = refl;
+          nowhere = refl;
+          unlooked = refl;
+          unloaded = refl;
         }),
         record {
           pool = take_stays bench_pool.view_of k s.words ps t id w.post there seat no_pin p' refl refl zero_word refl refl (one_seat bench_rule k s h id w at ne) (nobody_has bench_rule k s h builder_word zero_word);

@@ -44,15 +44,16 @@ module _ (chunks seats builder : ℕ) (few : seats ≤ max_seats) (words : List 
   heard_rests n (suc x) found = still v.counted
 
   -- a load of a pin word
-  pub loads_pin : (n x : ℕ) → get_or words (pin_word n) 0 ≡ x → (words' : List ℕ) → words' ≡ words → Builds chunks seats builder words words' v (pin_loaded v n x)
-  loads_pin n x found words' same = record {
+  pub loads_pin : (n x : ℕ) → IsSeat seats n → get_or words (pin_word n) 0 ≡ x → (words' : List ℕ) → words' ≡ words → Builds chunks seats builder words words' v (pin_loaded v n x)
+  loads_pin n x seat found words' same = record {
     long = ap (λ (l : List ℕ). length l) same;
     others = λ i _. ap (λ (l : List ℕ). get_or l i 0) same;
     stored = stored;
     counted = heard_sized chunks seats v.counted n x counted;
     written = subst (λ (l : List ℕ). Written chunks seats l v.stored) (sym same) written;
     moves = inl (heard_rests n x found);
-    pin = refl;
+    pin = (refl, refl, refl);
+    loaded = inr (n, seat, ap (λ (y : ℕ). (n, y) ∷ v.loaded) (sym found));
   }
 
   -- a store of a bit
@@ -76,7 +77,8 @@ module _ (chunks seats builder : ℕ) (few : seats ≤ max_seats) (words : List 
       counted = counted;
       written = grace_written;
       moves = inl (still v.counted);
-      pin = refl;
+      pin = (refl, refl, refl);
+      loaded = inl refl;
     }
 
   -- the batches turn at the store of the first bit
@@ -92,7 +94,8 @@ module _ (chunks seats builder : ℕ) (few : seats ≤ max_seats) (words : List 
       states = λ c. map_turned v.counted.states c;
       grace = λ n seat other. let a = all_but_other seats builder n seat.1 other in λ z. omega arith;
     });
-    pin = refl;
+    pin = (refl, refl, refl);
+    loaded = inl refl;
   }
 
   -- a store of a state
@@ -111,7 +114,8 @@ module _ (chunks seats builder : ℕ) (few : seats ≤ max_seats) (words : List 
       counted = counted;
       written = state_written chunks seats words v.stored c x few lt long stored written;
       moves = inl (still v.counted);
-      pin = refl;
+      pin = (refl, refl, refl);
+      loaded = inl refl;
     }
 
   -- a free chunk is taken
@@ -128,5 +132,6 @@ module _ (chunks seats builder : ℕ) (few : seats ≤ max_seats) (words : List 
           (λ q. inl (get_or-set_other v.counted.states c e 1 0 q));
       grace = λ n seat. inl refl;
     });
-    pin = refl;
+    pin = (refl, refl, refl);
+    loaded = inl refl;
   }

@@ -3,5 +3,6 @@ pub mod BuilderSteps
 pub mod Live
 pub mod PassLemmas
 pub mod SweepLemmas
+pub mod Protecting
 pub mod Allowing
 pub mod BenchAllows

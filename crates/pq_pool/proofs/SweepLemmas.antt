@@ -3,20 +3,33 @@ use Rattle.std.proofs.Common.{◌≡◌, ◌≢◌, ◌⊎◌, ℕ, zero, suc, �
 use native.Mathlib.Decide.{ℕ_discrete, dec_le}
 use mathlib.Core.Logic.{dite}
 use Rattle.pq_model.specs.History.{IsSeat}
-use Rattle.pq_seats.proofs.Lists.{in_first, in_later}
+use Rattle.pq_seats.proofs.Lists.{not_in, in_first, in_later, in_cases}
 use Rattle.pq_pool.specs.declared.views.PoolState.{PoolState}
 use Rattle.pq_pool.specs.declared.views.PoolView.{PoolView}
 use Rattle.pq_pool.specs.States.{state_of, grace_of, IsLive, Agrees, turned}
-use Rattle.pq_pool.specs.Views.{pin_loaded, grace_stored, state_stored, turned_at, batches_turned}
-use Rattle.pq_pool.specs.Sweeps.{WasUnset, IsCleared, IsLeft, GoneOver, Turned}
+use Rattle.pq_pool.specs.Views.{KeepsPin, pin_loaded, grace_stored, state_stored, turned_at, batches_turned}
+use Rattle.pq_pool.specs.Sweeps.{WasUnset, IsCleared, IsLeft, IsOnePass, GoneOver, Turned}
 use Rattle.pq_pool.specs.SweepSteps.{SeatHeard, GraceStored, StatesStored}
 use Rattle.pq_pool.proofs.BuilderSteps.{map_turned}
+
+-- the pin stays
+pins_still : (v : PoolView) → KeepsPin v v
+pins_still v = (refl, refl, refl)
+
+pins_more : (u v w : PoolView) → KeepsPin u v → KeepsPin v w → KeepsPin u w
+pins_more u v w a b = (b.0 ∙ a.0, b.1 ∙ a.1, b.2 ∙ a.2)
+
+-- the loads of one pass over fewer seats are those of one over more
+one_pass_up : (n m : ℕ) → n ≤ m → (l : List (ℕ × ℕ)) → IsOnePass n l → IsOnePass m l
+one_pass_up n m low [] p = tt
+one_pass_up n m low (x ∷ xs) p = let lt = p.0 in (omega arith, p.1)
 
 -- The bit of one seat: it was not set, or it is left, or it is cleared
 pub heard_unset : (seats : ℕ) (v : PoolView) (n : ℕ) → IsSeat seats n → Agrees seats v.stored v.counted → grace_of v.stored n ≡ 0 → SeatHeard seats v v n false
 heard_unset seats v n seat a zero_bit = record {
   states = refl;
   agrees = a;
+  pin = pins_still v;
   others = λ m ne. refl;
   kept = λ e. absurd (cc);
   gone = λ e. let z = sym (a.grace n seat) ∙ zero_bit in (z, inl (z, refl));
@@ -26,13 +39,14 @@ pub heard_left : (seats : ℕ) (v : PoolView) (n : ℕ) → IsSeat seats n → A
 heard_left seats v n seat a some_bit = record {
   states = refl;
   agrees = a;
+  pin = pins_still v;
   others = λ m ne. refl;
   kept = λ e. (refl, (λ z. some_bit (a.grace n seat ∙ z)), refl);
   gone = λ e. absurd (cc);
 }
 
-pub heard_gone : (seats : ℕ) (v : PoolView) (n : ℕ) → IsSeat seats n → length v.stored.grace ≡ suc seats → length v.counted.grace ≡ suc seats → Agrees seats v.stored v.counted → SeatHeard seats v (grace_stored (pin_loaded v n 0) n 0) n false
-heard_gone seats v n seat long_stored long_counted a = let high = seat.1 in record {
+pub heard_gone : (seats : ℕ) (v : PoolView) (n : ℕ) → IsSeat seats n → length v.stored.grace ≡ suc seats → length v.counted.grace ≡ suc seats → Agrees seats v.stored v.counted → grace_of v.stored n ≢ 0 → SeatHeard seats v (grace_stored (pin_loaded v n 0) n 0) n false
+heard_gone seats v n seat long_stored long_counted a some_bit = let high = seat.1 in record {
   states = refl;
   agrees = record {
     states = a.states;
@@ -40,17 +54,21 @@ heard_gone seats v n seat long_stored long_counted a = let high = seat.1 in reco
         (λ e. ap (λ (z : ℕ). get_or (set v.stored.grace n 0) z 0) e ∙ (get_or-set_same v.stored.grace n 0 0 (omega arith) ∙ (sym (get_or-set_same v.counted.grace n 0 0 (omega arith)) ∙ ap (λ (z : ℕ). get_or (set v.counted.grace n 0) z 0) (sym e))))
         (λ ne. get_or-set_other v.stored.grace n m 0 0 ne ∙ (a.grace m at ∙ sym (get_or-set_other v.counted.grace n m 0 0 ne)));
   };
+  pin = pins_still v;
   others = λ m ne. get_or-set_other v.counted.grace n m 0 0 ne;
   kept = λ e. absurd (cc);
-  gone = λ e. (get_or-set_same v.counted.grace n 0 0 (omega arith), inr refl);
+  gone = λ e. (get_or-set_same v.counted.grace n 0 0 (omega arith), inr ((λ z. some_bit (a.grace n seat ∙ z)), refl));
 }
 
 pub gone_over_none : (seats : ℕ) (v : PoolView) → Agrees seats v.stored v.counted → GoneOver seats v v 1 false
 gone_over_none seats v a = record {
   states = refl;
   agrees = a;
+  pin = pins_still v;
   loads = [];
   loaded = refl;
+  once = tt;
+  where_set = λ x has. absurd (not_in x has);
   each = λ m low lt. absurd (omega arith);
   rest = λ m low. refl;
   none = λ e m low lt. absurd (omega arith);
@@ -72,8 +90,14 @@ module _ (seats : ℕ) (u v w : PoolView) (n : ℕ) (positive : 1 ≤ n) where
   gone_over_left left l h = let k = h.kept refl in let more : List (ℕ × ℕ) = (n, 1) ∷ l.loads in record {
     states = h.states ∙ l.states;
     agrees = h.agrees;
+    pin = pins_more u v w l.pin h.pin;
     loads = more;
     loaded = k.2 ∙ ap (λ (z : List (ℕ × ℕ)). (n, 1) ∷ z) l.loaded;
+    once = (omega arith, l.once);
+    where_set = λ x has. ⊎_elim
+        (λ e. subst (λ (z : ℕ × ℕ). grace_of u.counted z.0 ≢ 0) e (λ z. k.1 (k.0 ∙ (l.rest n (omega arith) ∙ z))))
+        (λ old. l.where_set x old)
+        (in_cases (n, 1) x l.loads has);
     each = λ m low lt. dite (ℕ_discrete m n)
         (λ q. subst (λ (z : ℕ). Tells more w z) (sym q) (inr (inr (k.0 ∙ l.rest n (omega arith), k.1, in_first (n, 1) l.loads))))
         (λ q. older l.loads more (λ x has. in_later (n, 1) x l.loads has) m (h.others m q) (l.each m low (omega arith)));
@@ -86,8 +110,11 @@ module _ (seats : ℕ) (u v w : PoolView) (n : ℕ) (positive : 1 ≤ n) where
   gone_over_gone left l h = let k = h.gone refl in let was : grace_of v.counted n ≡ grace_of u.counted n = l.rest n (omega arith) in record {
     states = h.states ∙ l.states;
     agrees = h.agrees;
+    pin = pins_more u v w l.pin h.pin;
     loads = (with_load k.1).0;
     loaded = (with_load k.1).1;
+    once = (with_load k.1).4;
+    where_set = (with_load k.1).5 was;
     each = λ m low lt. dite (ℕ_discrete m n)
         (λ q. subst (λ (z : ℕ). Tells (with_load k.1).0 w z) (sym q) ((with_load k.1).3 k.0 was))
         (λ q. older l.loads (with_load k.1).0 (with_load k.1).2 m (h.others m q) (l.each m low (omega arith)));
@@ -99,18 +126,31 @@ module _ (seats : ℕ) (u v w : PoolView) (n : ℕ) (positive : 1 ≤ n) where
   }
     where
       -- the loads after it, and what they tell of this seat
-      with_load : ((grace_of v.counted n ≡ 0) × (w.loaded ≡ v.loaded)) ⊎ (w.loaded ≡ (n, 0) ∷ v.loaded)
-          → (more : List (ℕ × ℕ)) × (w.loaded ≡ more ++ u.loaded) × ((x : ℕ × ℕ) → Contains l.loads x → Contains more x) × ((grace_of w.counted n ≡ 0) → (grace_of v.counted n ≡ grace_of u.counted n) → Tells more w n)
-      with_load (inl a) = (l.loads, a.1 ∙ l.loaded, (λ x has. has), λ z was. inl (sym was ∙ a.0, z))
-      with_load (inr e) = ((n, 0) ∷ l.loads, e ∙ ap (λ (z : List (ℕ × ℕ)). (n, 0) ∷ z) l.loaded, (λ x has. in_later (n, 0) x l.loads has), λ z was. inr (inl (z, in_first (n, 0) l.loads)))
+      with_load : ((grace_of v.counted n ≡ 0) × (w.loaded ≡ v.loaded)) ⊎ ((grace_of v.counted n ≢ 0) × (w.loaded ≡ (n, 0) ∷ v.loaded))
+          → (more : List (ℕ × ℕ)) × (w.loaded ≡ more ++ u.loaded) × ((x : ℕ × ℕ) → Contains l.loads x → Contains more x)
+          × ((grace_of w.counted n ≡ 0) → (grace_of v.counted n ≡ grace_of u.counted n) → Tells more w n)
+          × IsOnePass (suc n) more × ((grace_of v.counted n ≡ grace_of u.counted n) → (x : ℕ × ℕ) → Contains more x → grace_of u.counted x.0 ≢ 0)
+      with_load (inl a) = (l.loads, a.1 ∙ l.loaded, (λ x has. has), (λ z was. inl (sym was ∙ a.0, z)), one_pass_up n (suc n) (omega arith) l.loads l.once, λ was x has. l.where_set x has)
+      with_load (inr e) = (
+        (n, 0) ∷ l.loads,
+        e.1 ∙ ap (λ (z : List (ℕ × ℕ)). (n, 0) ∷ z) l.loaded,
+        (λ x has. in_later (n, 0) x l.loads has),
+        (λ z was. inr (inl (z, in_first (n, 0) l.loads))),
+        (omega arith, l.once),
+        λ was x has. ⊎_elim
+            (λ q. subst (λ (z : ℕ × ℕ). grace_of u.counted z.0 ≢ 0) q (λ z. e.0 (was ∙ z)))
+            (λ old. l.where_set x old)
+            (in_cases (n, 0) x l.loads has),
+      )
 
 -- The stores after the turn
 pub grace_stored_none : (v : PoolView) → GraceStored v v 1
-grace_stored_none v = record { counted = refl; loaded = refl; states = refl; grace = λ m low lt. absurd (omega arith) }
+grace_stored_none v = record { counted = refl; pin = pins_still v; loaded = refl; states = refl; grace = λ m low lt. absurd (omega arith) }
 
 pub grace_stored_more : (seats : ℕ) (u v w : PoolView) (n x : ℕ) → n ≤ seats → length v.stored.grace ≡ suc seats → GraceStored u v n → w ≡ grace_stored v n x → x ≡ grace_of u.counted n → GraceStored u w (suc n)
 grace_stored_more seats u v w n x high long b is value = subst (λ (y : PoolView). GraceStored u y (suc n)) (sym is) (record {
   counted = b.counted;
+  pin = b.pin;
   loaded = b.loaded;
   states = b.states;
   grace = λ m low lt. dite (ℕ_discrete m n)
@@ -119,11 +159,12 @@ grace_stored_more seats u v w n x high long b is value = subst (λ (y : PoolView
 })
 
 pub states_stored_none : (v : PoolView) → StatesStored v v 0
-states_stored_none v = record { counted = refl; loaded = refl; grace = refl; below = λ c lt. absurd (omega arith); above = λ c low. refl }
+states_stored_none v = record { counted = refl; pin = pins_still v; loaded = refl; grace = refl; below = λ c lt. absurd (omega arith); above = λ c low. refl }
 
 pub states_stored_more : (u v w : PoolView) (c x : ℕ) → c < length v.stored.states → StatesStored u v c → w ≡ state_stored v c x → state_of u.counted c ≡ x → StatesStored u w (suc c)
 states_stored_more u v w c x within b is value = subst (λ (y : PoolView). StatesStored u y (suc c)) (sym is) (record {
   counted = b.counted;
+  pin = b.pin;
   loaded = b.loaded;
   grace = b.grace;
   below = λ m lt. dite (ℕ_discrete m c)
@@ -152,6 +193,7 @@ turned_by seats builder u v w x bit agrees long is bits states =
         grace = λ m seat. let high = seat.1 in ap (λ (l : List ℕ). get_or l m 0) states.grace ∙ (bits.grace m seat.0 (omega arith) ∙ ap (λ (b : PoolState). grace_of b m) (sym states.counted));
       };
       counted = counted;
+      pin = pins_more u w x (pins_more u v w (ap (λ (y : PoolView). y.pinned) is, ap (λ (y : PoolView). y.stands) is, ap (λ (y : PoolView). y.looks) is) bits.pin) states.pin;
       loaded = states.loaded ∙ (bits.loaded ∙ ap (λ (y : PoolView). y.loaded) is);
     }
 

@@ -55,7 +55,7 @@ bench_pool_laws = record {
   again = λ o v w. refl;
   back = λ o. refl;
   facts = λ k s h. h.tied.pool;
-  pins = λ k s h id v at positive loose no_lock stands safe.
+  pins = λ k s h id v at positive no_lock stands safe kept.
       let b = h.tied in let ps = map post_of s.views in let there = at_map post_of s.views id v at in
       let ne : v.post.number ≢ 0 = λ z. omega arith in
       let low = number_low bench_rule k s h id v at positive in

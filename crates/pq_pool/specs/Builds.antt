@@ -1,11 +1,12 @@
 -- The steps of the builder that leave the live chunks: those of a sweep, and the taking of a free chunk. A rule that
 -- stands on the pool has to allow these, and sees no more of a sweep.
-use Rattle.std.specs.Prelude.{◌≡◌, ◌≢◌, ◌⊎◌, ℕ, ◌<◌, List, length, slice_index}
+use Rattle.std.specs.Prelude.{◌≡◌, ◌≢◌, ◌⊎◌, ℕ, ◌<◌, List, ◌∷◌, length, slice_index}
 use Rattle.pq_model.specs.History.{IsSeat}
 use Rattle.pq_pool.specs.declared.views.PoolState.{PoolState}
 use Rattle.pq_pool.specs.declared.views.PoolView.{PoolView}
 use Rattle.pq_pool.specs.Layout.{pin_word, grace_word, state_word}
 use Rattle.pq_pool.specs.States.{state_of, grace_of, IsFree, IsBuilt, Sized, Written, turned}
+use Rattle.pq_pool.specs.Views.{KeepsPin}
 
 -- the word is a grace bit or a state
 abbrev pub IsSwept : ℕ → ℕ → ℕ → Type 0
@@ -24,6 +25,11 @@ pub record Turns (seats builder : ℕ) (a b : PoolState) : Type 0 where
   pub states : (c : ℕ) → state_of b c ≡ turned (state_of a c)
   pub grace : (n : ℕ) → IsSeat seats n → n ≢ builder → grace_of b n ≢ 0
 
+-- The list of the pin words that the builder has loaded stays, or has one more, as it is in the words
+abbrev pub IsLoaded : ℕ → List ℕ → PoolView → PoolView → Type 0
+IsLoaded seats words v v' = (v'.loaded ≡ v.loaded)
+    ⊎ ((n : ℕ) × IsSeat seats n × (v'.loaded ≡ (n, slice_index words (pin_word n)) ∷ v.loaded))
+
 -- Such a step, from the words and the view that were to those that are
 pub record Builds (chunks seats builder : ℕ) (words words' : List ℕ) (v v' : PoolView) : Type 0 where
   pub long : length words' ≡ length words
@@ -32,4 +38,5 @@ pub record Builds (chunks seats builder : ℕ) (words words' : List ℕ) (v v' :
   pub counted : Sized chunks seats v'.counted
   pub written : Written chunks seats words' v'.stored
   pub moves : Rests seats words v.counted v'.counted ⊎ Turns seats builder v.counted v'.counted
-  pub pin : v'.pinned ≡ v.pinned
+  pub pin : KeepsPin v v'
+  pub loaded : IsLoaded seats words v v'

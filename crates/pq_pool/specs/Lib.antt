@@ -5,6 +5,7 @@ pub mod States
 pub mod Facts
 pub mod Views
 pub mod Builds
+pub mod Protection
 pub mod Parts
 pub mod PoolLaws
 pub mod Passes

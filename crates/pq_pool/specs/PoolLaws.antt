@@ -1,5 +1,5 @@
 -- What a rule that stands on the pool owes it, in each state in which the rule holds.
-use Rattle.std.specs.Prelude.{◌≡◌, ℕ, ◌<◌, false, ◌==◌, List, map, Contains, slice_set}
+use Rattle.std.specs.Prelude.{◌≡◌, ℕ, ◌<◌, true, false, ◌==◌, List, [], map, Contains, slice_set}
 use Rattle.pq_model.specs.History.{left}
 use Rattle.pq_seats.specs.declared.views.Limits.{Limits}
 use Rattle.pq_seats.specs.declared.views.View.{View}
@@ -19,11 +19,15 @@ pub record NamesAll (k : Limits) (v : PoolView) : Type 0 where
   pub stored : Sized chunks.count k.seats v.stored
   pub counted : Sized chunks.count k.seats v.counted
 
--- the view of who has just taken the builder's word: the words are as they count, and the seat has no pin
+-- the view of who has just taken the builder's word: the words are as they count, the seat has no pin and stands on
+-- nothing, and it has neither looked nor loaded a pin word
 pub record NamesWords (k : Limits) (v : PoolView) : Type 0 where
   pub all : NamesAll k v
   pub agrees : Agrees k.seats v.stored v.counted
   pub unpinned : v.pinned ≡ false
+  pub nowhere : v.stands ≡ []
+  pub unlooked : v.looks ≡ 0
+  pub unloaded : v.loaded ≡ []
 
 module _ {O : Type 0} (R : Rule O) (P : PoolPart O) where
   -- BUILDER is the number that the rule gives for the builder's word. The pool asks for nothing else, so a queue adds
@@ -38,11 +42,13 @@ module _ {O : Type 0} (R : Rule O) (P : PoolPart O) where
     pub back : (o : O) → P.with_view o (P.view_of o) ≡ o
     -- the rule says the facts of the pool
     pub facts : (k : Limits) (s : Table O) → Holds R k s → PoolFacts P.view_of k s.words (map post_of s.views)
-    -- any seat that does not build may pin itself, on chunks that are safe for it
+    -- Any seat that does not build may pin itself, on chunks that are safe for it. Where it is pinned already, its pin
+    -- word is 1, and it may come to further ones: it leaves none on which it stands
     pub pins : (k : Limits) (s : Table O) (h : Holds R k s) (id : ℕ) (v : View O) → Stands R s id v → 0 < v.post.number
-        → (pool_view P v).pinned ≡ false → ¬ Contains v.post.locks builder_word → (stands : List ℕ)
+        → ¬ Contains v.post.locks builder_word → (stands : List ℕ)
         → ((c : ℕ) → Contains stands c
         → (c < (facts k s h).chunks.count) × IsSafe (facts k s h).counted v.post.number c)
+        → ((pool_view P v).pinned ≡ true → (c : ℕ) → Contains (pool_view P v).stands c → Contains stands c)
         → TiedAfter R k s (pin_word v.post.number) 1 id
         (with_pool_post P v.post (pinned_on (pool_view P v) stands)) (left h.history)
     -- the builder may sweep, and take a free chunk

@@ -8,8 +8,9 @@ use Rattle.pq_seats.specs.declared.views.Post.{Post}
 use Rattle.pq_seats.specs.declared.views.View.{View}
 use Rattle.pq_seats.specs.Views.{post_of}
 use Rattle.pq_seats.specs.Rules.{Table, Rule, Holds, Stands}
+use Rattle.pq_pool.specs.declared.views.PoolView.{PoolView}
 use Rattle.pq_pool.specs.Layout.{state_word}
-use Rattle.pq_pool.specs.States.{state_of, grace_of, IsFree, IsLive, IsInUse}
+use Rattle.pq_pool.specs.States.{state_of, grace_of, IsFree, IsLive, IsSafe}
 use Rattle.pq_pool.specs.Facts.{PoolFacts}
 use Rattle.pq_pool.specs.Views.{pin_loaded, grace_stored, state_stored, moved, turned_at, pinned_on, unpinned}
 use Rattle.pq_pool.specs.Parts.{PoolPart, pool_view, with_pool_view}
@@ -27,23 +28,33 @@ module _ {O : Type 0} (R : Rule O) (P : PoolPart O) where
     pub are : posts ≡ map post_of table.views
     pub facts : PoolFacts P.view_of limits table.words posts
 
-  -- The chunk was free, and no pinned seat stood on it
+  -- At the step, and in each moment in which the seat has this view, the chunk is free and no pinned seat stands on it
   pub record GivenOut (v : View O) (c : ℕ) : Type 0 where
     pub moment : Moment v
-    pub free : IsFree moment.facts.counted c
-    pub nobody : (j : ℕ) (p : Post O) → get_elem? moment.posts j ≡ some p → 0 < p.number
+    pub free : (m : Moment v) → IsFree m.facts.counted c
+    pub nobody : (m : Moment v) (j : ℕ) (p : Post O) → get_elem? m.posts j ≡ some p → 0 < p.number
         → (P.view_of p.own).pinned ≡ true → ¬ Contains (P.view_of p.own).stands c
 
-  -- The seat stands on just the live chunks
-  pub record StandsOnLive (v : View O) : Type 0 where
+  -- A seat whose pool's part was `old` has pinned itself: it stands on just the chunks that are live at that step, and
+  -- where it was pinned before, on those on which it stood
+  pub record StandsOnLive (old : PoolView) (v : View O) : Type 0 where
     pub moment : Moment v
     pub all : (c : ℕ) → IsLive moment.facts.counted c → Contains (pool_view P v).stands c
-    pub only : (c : ℕ) → Contains (pool_view P v).stands c → IsLive moment.facts.counted c
+    pub only : (c : ℕ) → Contains (pool_view P v).stands c
+        → IsLive moment.facts.counted c ⊎ ((old.pinned ≡ true) × Contains old.stands c)
+    pub kept : old.pinned ≡ true → (c : ℕ) → Contains old.stands c → Contains (pool_view P v).stands c
 
-  -- Each chunk on which the seat stands is live, young or old, and so was not given out since the seat came to it
-  pub record StandsStill (v : View O) : Type 0 where
+  -- It has looked under its pin: it stands on all chunks that are safe for it at that step. Each chunk that was live at
+  -- any moment of the pin is one of these, and so is each on which it stood
+  pub record StandsOnSafe (old : PoolView) (v : View O) : Type 0 where
     pub moment : Moment v
-    pub in_use : (c : ℕ) → Contains (pool_view P v).stands c → IsInUse moment.facts.counted c
+    pub all : (c : ℕ) → IsSafe moment.facts.counted v.post.number c → Contains (pool_view P v).stands c
+    pub kept : (c : ℕ) → Contains old.stands c → Contains (pool_view P v).stands c
+
+  -- In each moment in which a seat has this view, each chunk on which it stands is safe for it, so none is free
+  abbrev pub StandsSafely : View O → Type 0
+  StandsSafely v = (m : Moment v) (c : ℕ) → Contains (pool_view P v).stands c
+      → IsSafe m.facts.counted v.post.number c
 
   -- Of a step on a word: the view that was, what was found, and the view that is
   module _ (st : Step (Unit {0})) (m : Me (Unit {0}) (View O)) (found : ℕ) (m' : Me (Unit {0}) (View O)) where
@@ -77,13 +88,14 @@ module _ {O : Type 0} (R : Rule O) (P : PoolPart O) where
     abbrev pub moves : Type 0
     moves = (c : ℕ) × (st.word ≡ state_word c) × (m' ≡ (with_pool_view P m.0 (moved (pool_view P m.0) c st.first), m.1))
 
-    -- a seat pins itself, loads a word under its pin, and ends the pin
+    -- a seat pins itself, looks under its pin, and ends the pin
     abbrev pub pins : Type 0
     pins = (stands : List ℕ) × (m' ≡ (with_pool_view P m.0 (pinned_on (pool_view P m.0) stands), m.1))
-        × StandsOnLive m'.0
+        × StandsOnLive (pool_view P m.0) m'.0 × StandsSafely m'.0
 
-    abbrev pub stands_still : Type 0
-    stands_still = (m' ≡ m) × StandsStill m.0
+    abbrev pub looks : Type 0
+    looks = (stands : List ℕ) × (m' ≡ (with_pool_view P m.0 (pinned_on (pool_view P m.0) stands), m.1))
+        × StandsOnSafe (pool_view P m.0) m'.0 × StandsSafely m'.0
 
     abbrev pub unpins : Type 0
     unpins = m' ≡ (with_pool_view P m.0 (unpinned (pool_view P m.0)), m.1)

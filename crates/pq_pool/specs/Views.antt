@@ -1,5 +1,5 @@
 -- What each step makes of the pool's part of a view.
-use Rattle.std.specs.Prelude.{ℕ, zero, suc, true, false, List, [], ◌∷◌, map, replicate, slice_set}
+use Rattle.std.specs.Prelude.{◌≡◌, ℕ, zero, suc, true, false, List, [], ◌∷◌, map, replicate, slice_set}
 use Rattle.pq_pool.specs.declared.views.PoolState.{PoolState}
 use Rattle.pq_pool.specs.declared.views.PoolView.{PoolView}
 use Rattle.pq_pool.specs.States.{turned}
@@ -9,14 +9,25 @@ pool_state states grace = record { states = states; grace = grace }
 
 -- of a seat that has no pin and does not build
 abbrev pub idle_view : PoolView
-idle_view = record { pinned = false; stands = []; stored = pool_state [] []; counted = pool_state [] []; loaded = [] }
+idle_view = record {
+  pinned = false;
+  stands = [];
+  looks = 0;
+  stored = pool_state [] [];
+  counted = pool_state [] [];
+  loaded = [];
+}
 
--- a pin, on these chunks, and its end
+-- a pin, or a look under it, by which the seat stands on these chunks; and the end of the pin
 abbrev pub pinned_on : PoolView → List ℕ → PoolView
-pinned_on v stands = record v { pinned = true; stands = stands }
+pinned_on v stands = record v { pinned = true; stands = stands; looks = suc v.looks }
 
 abbrev pub unpinned : PoolView → PoolView
 unpinned v = record v { pinned = false; stands = [] }
+
+-- its pin is as it was, and so are the chunks on which it stands
+abbrev pub KeepsPin : PoolView → PoolView → Type 0
+KeepsPin v w = (w.pinned ≡ v.pinned) × (w.stands ≡ v.stands) × (w.looks ≡ v.looks)
 
 abbrev pub with_state : PoolState → ℕ → ℕ → PoolState
 with_state b c x = pool_state (slice_set b.states c x) b.grace

@@ -1,14 +1,15 @@
 //! A rule with the words of the base and of the pool alone, on which the calls of the pool can be made without a queue.
-ghost use Rattle.std.specs.Prelude.{◌≡◌, ℕ, ◌+◌, ◌*◌, ◌≤◌, Contains, IfOk, MatchBool, length};
+ghost use Rattle.std.specs.Prelude.{◌≡◌, ℕ, ◌+◌, ◌*◌, ◌≤◌, Contains, IfOk, MatchBool, length, slice_index};
 ghost use Rattle.pq_model.specs.Limits.{max_seats};
 ghost use Rattle.pq_model.specs.History.{IsSeat};
 ghost use Rattle.pq_api.specs.Answers.{EachAt};
 ghost use Rattle.pq_seats.specs.Seats.{Begins, limits_for};
 ghost use Rattle.pq_seats.specs.Passes.{view_of, Belongs, IsSamePass};
+ghost use Rattle.pq_seats.specs.Steps.{Took, Missed, freed_view};
 ghost use Rattle.pq_pool.specs.Limits.{max_chunks};
 ghost use Rattle.pq_pool.specs.Layout.{builder_word, first_chunk, chunk_words};
 ghost use Rattle.pq_pool.specs.States.{IsBuilt, IsLive};
-ghost use Rattle.pq_pool.specs.Views.{moved};
+ghost use Rattle.pq_pool.specs.Views.{unpinned, moved};
 ghost use Rattle.pq_pool.specs.Passes.{pool_of, HoldsBuilder, StaysBuilder, StaysSeated, AgreesAt};
 ghost use Rattle.pq_pool.specs.Bench.{bench_rule, bench_pool, IsLoose};
 ghost use Rattle.pq_pool.specs.BenchLawsHold.{bench_lawful, bench_pool_laws};
@@ -43,12 +44,13 @@ impl PoolRule for Bench {
 
 pub type BenchPass = SeatPass<Bench>;
 
-/// The words of a fresh bench: every chunk is free, every link is 0, and no pin or grace bit is set. They suit any
-/// capacity, since a bench holds no entries.
+/// The words of a fresh bench: all are 0, so every chunk is free, every link is 0, and no pin or grace bit is set. They
+/// suit any capacity, since a bench holds no entries.
 pub fn bench_words(alloc: Global, chunks: u32, seats: u32) -> Result<Vec<u64>, NoMemory>
     requires chunks { (1 ≤ chunks) × (chunks ≤ max_chunks) }
     requires seats { IsSeat max_seats seats }
     ensures long { IfOk result (λ v. length v.items ≡ first_chunk + chunk_words * chunks) }
+    ensures zeros { IfOk result (λ v. (i : ℕ) → slice_index v.items i ≡ 0) }
     ensures begins { IfOk result (λ v. (capacity : ℕ)
         → Begins bench_rule (limits_for capacity seats v.items) v.items) }
 {
@@ -81,7 +83,8 @@ impl Bench {
         Ok((shared, passes))
     }
 
-    /// Tries to take the builder's word, by one exchange. The seat has no pin.
+    /// Tries to take the builder's word, by one exchange. The seat has no pin. The answer is true exactly where the
+    /// word read was 0. Where it is false, the view has read one word more, which was not 0.
     pub fn try_hold(shared: &Shared<Bench>, pass: &mut BenchPass) -> bool
         requires wide { first_chunk ≤ shared.now.words }
         requires loose { IsLoose shared.now pass.old }
@@ -90,6 +93,9 @@ impl Bench {
             (HoldsBuilder bench_pool shared.now pass.new
             × AgreesAt bench_pool shared.now pass.new)
             (IsLoose shared.now pass.new) }
+        ensures answer { MatchBool result
+            (Took bench_rule (view_of pass.old) (view_of pass.new) builder_word)
+            (Missed bench_rule (view_of pass.old) (view_of pass.new)) }
     {
         shared.try_lock(pass, Bench::BUILDER)
     }
@@ -101,6 +107,7 @@ impl Bench {
         ensures same { IsSamePass pass.old pass.new }
         ensures held { HoldsBuilder bench_pool shared.now pass.new }
         ensures agrees { AgreesAt bench_pool shared.now pass.new }
+        ensures took { Took bench_rule (view_of pass.old) (view_of pass.new) builder_word }
     {
         shared.lock(rt, pass, Bench::BUILDER);
     }
@@ -111,6 +118,7 @@ impl Bench {
         requires agrees { AgreesAt bench_pool shared.now pass.old }
         ensures same { IsSamePass pass.old pass.new }
         ensures loose { IsLoose shared.now pass.new }
+        ensures view { view_of pass.new ≡ freed_view bench_rule (view_of pass.old) builder_word }
     {
         shared.unlock(pass, Bench::BUILDER);
     }
@@ -122,6 +130,7 @@ impl Bench {
         requires no_lock { ¬ Contains (view_of pass.old).post.locks builder_word }
         ensures same { StaysSeated bench_pool shared.now pass.old pass.new }
         ensures loose { IsLoose shared.now pass.new }
+        ensures view { pool_of bench_pool pass.new ≡ unpinned (pool_of bench_pool pass.old) }
     {
         pins::unpin(shared, pass);
     }

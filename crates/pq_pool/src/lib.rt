@@ -4,6 +4,7 @@
 
 mod bench;
 mod chunks;
+mod laws;
 mod layout;
 mod limits;
 mod pins;
@@ -17,6 +18,7 @@ mod views;
 
 pub use bench::{Bench, BenchPass, bench_words};
 pub use chunks::{publish, retire, take};
+pub use laws::pins_protect;
 pub use layout::{BUILDER_WORD, CHUNK_WORDS, FIRST_CHUNK};
 pub use limits::MAX_CHUNKS;
 pub use pins::{pin, still_stands, unpin};

@@ -1,6 +1,6 @@
 //! What the steps of the pool tell their callers.
 ghost use Rattle.pq_pool.specs.Steps.{sees_grace, sees_state, sees_pin, stores_grace, stores_state};
-ghost use Rattle.pq_pool.specs.Steps.{turns, takes, moves, pins, stands_still, unpins};
+ghost use Rattle.pq_pool.specs.Steps.{turns, takes, moves, pins, looks, unpins};
 
 use crate::PoolRule;
 use atomic_table::Play;
@@ -88,13 +88,13 @@ impl<R: PoolRule> Play<(), View<R::Own>> for Pin<R> {
     ghost then = { pins R.rule R.pool };
 }
 
-/// A load under a pin, at which the seat learns that it still stands where it stood.
-pub struct StandStill<R> {
+/// A load under a pin, at which the seat comes to all chunks that are safe for it.
+pub struct Look<R> {
     rule: PhantomData<R>,
 }
 
-impl<R: PoolRule> Play<(), View<R::Own>> for StandStill<R> {
-    ghost then = { stands_still R.rule R.pool };
+impl<R: PoolRule> Play<(), View<R::Own>> for Look<R> {
+    ghost then = { looks R.rule R.pool };
 }
 
 /// The store at which a pin ends.

@@ -15,6 +15,9 @@ pub struct PoolView {
     pub pinned: bool,
     /// The chunks on which it may stand while it is pinned.
     pub stands: LinkedList<u64>,
+    /// How often it has come to chunks since it last took the builder's word: once by each pin, and once by each look
+    /// under a pin.
+    pub looks: u64,
     /// At the holder of the builder's word: the words as they are written.
     pub stored: PoolState,
     /// And as they count. Between the steps of a sweep they are not yet written so.

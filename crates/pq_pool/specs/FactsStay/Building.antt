@@ -20,7 +20,7 @@ use Rattle.pq_pool.specs.FactsStay.Words.{turned_cases, low_not_swept, next_not_
 
 -- What the two kinds of change do to a state, a link and who is safe
 module _ (seats builder : ℕ) (words : List ℕ) (a b : PoolState) (kinds : (c : ℕ) → state_of a c ≤ 4) (m : Rests seats words a b ⊎ Turns seats builder a b) where
-  kinds_after : (c : ℕ) → state_of b c ≤ 4
+  pub kinds_after : (c : ℕ) → state_of b c ≤ 4
   kinds_after c = let old = kinds c in ⊎_elim
       (λ r. ⊎_elim (λ e. omega arith) (λ e. let x = e.1 in omega arith) (r.states c))
       (λ r. let e = r.states c in ⊎_elim (λ z. let z' = z.1 in omega arith) (λ z. ⊎_elim (λ y. let y' = y.1 in omega arith) (λ y. let y' = y.1 in omega arith) z) (turned_cases (state_of a c) old))
@@ -50,7 +50,7 @@ module _ (seats builder : ℕ) (words : List ℕ) (a b : PoolState) (kinds : (c 
       m
 
   -- and a pinned seat, which is not the builder, is still safe
-  safe_after : (n : ℕ) → IsSeat seats n → n ≢ builder → get_or words (pin_word n) 0 ≡ 1 → (c : ℕ) → IsSafe a n c → IsSafe b n c
+  pub safe_after : (n : ℕ) → IsSeat seats n → n ≢ builder → get_or words (pin_word n) 0 ≡ 1 → (c : ℕ) → IsSafe a n c → IsSafe b n c
   safe_after n seat other word c s = let s1 = s.0 in ⊎_elim
       (λ u. ⊎_elim
       (λ e. (omega arith, λ four. ⊎_elim (λ f. let g = s.1 (omega arith) in λ z. g (sym f ∙ z)) (λ f. absurd (omega arith)) (u.grace n seat)))
@@ -94,13 +94,13 @@ module _ {O : Type 0} (view_of : O → PoolView) (k : Limits) (words : List ℕ)
               names = refl;
               sized = B.stored;
               written = B.written;
-              unpinned = B.pin ∙ b.unpinned;
+              unpinned = B.pin.0 ∙ b.unpinned;
               no_pin = ap (λ (z : ℕ). get_or words' (17 + z) 0) number ∙ (under (17 + p.number) (omega arith) ∙ b.no_pin);
             }))
             (λ r. absurd (alone j q r.0 r.1 has'))
             (at_set posts id j p' q to);
         pinned = λ j q to some_number is. ⊎_elim
-            (λ e. let bad : false ≡ true = sym (B.pin ∙ b.unpinned) ∙ (ap (λ (z : Post O). (view_of z.own).pinned) e.1 ∙ is) in absurd (cc))
+            (λ e. let bad : false ≡ true = sym (B.pin.0 ∙ b.unpinned) ∙ (ap (λ (z : Post O). (view_of z.own).pinned) e.1 ∙ is) in absurd (cc))
             (λ r. let o = t.pinned j q r.1 some_number is in let word = o.word in let q_high = o.seat.1 in
             let other : q.number ≢ p.number = λ z. let none = b.no_pin in let none' : get_or words (17 + q.number) 0 ≡ 0 = ap (λ (y : ℕ). get_or words (17 + y) 0) z ∙ none in omega arith in
             pinned_still n k.seats words words' view_of a q d.counted o (under (17 + q.number) (omega arith)) (safe_after k.seats p.number words a d.counted t.kinds m q.number o.seat other word))

@@ -14,5 +14,5 @@ store-requires g c =
     let seats = c.args.shared.now.seated.0 in let few = c.args.shared.now.seated.1.1 in let wide = c.requires.wide in (
       sits.table,
       omega arith,
-      subst (λ (n : ℕ). Allows (Holds R k) z.slots seat.id seat.me (17 + n) (λ _. 1) (λ _. pins R P (step z.slots (17 + n) 1 0 none) seat.me 1)) (sym is) (may_pin R lawful P B laws k z.slots seat.id seat.me (omega arith) c.requires.unpinned c.requires.no_lock),
+      subst (λ (n : ℕ). Allows (Holds R k) z.slots seat.id seat.me (17 + n) (λ _. 1) (λ _. pins R P (step z.slots (17 + n) 1 0 none) seat.me 1)) (sym is) (may_pin R lawful P B laws k z.slots seat.id seat.me (omega arith) c.requires.no_lock),
     )
