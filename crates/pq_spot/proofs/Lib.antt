@@ -1,0 +1,2 @@
+-- How the calls of the spot are proved.
+pub mod Allows

@@ -1,0 +1,64 @@
+-- A pass of the spot between two calls and within one.
+use Rattle.std.specs.Prelude.{◌≡◌, ℕ, ◌≤◌, Bool, true, false, Option, Some, None, [], ◌∷◌}
+use Rattle.pq_model.specs.declared.marks.Reply.{Reply}
+use Rattle.pq_model.specs.declared.marks.Reply.TheVariants as replies
+use Rattle.pq_seats.specs.declared.views.Post.{Post}
+use Rattle.pq_seats.specs.declared.views.View.{View}
+use Rattle.pq_seats.specs.declared.shared.Shared.{Shared}
+use Rattle.pq_seats.specs.declared.shared.SeatPass.{SeatPass}
+use Rattle.pq_seats.specs.Views.{empty_post}
+use Rattle.pq_seats.specs.Passes.{view_of, Belongs}
+use Rattle.pq_spot.specs.declared.views.SpotPart.{SpotPart}
+use Rattle.pq_spot.specs.Spot.{token, lock_word, idle, part}
+
+-- the seat holds this now, and knows what it knew
+pub record Goes (v w : View SpotPart) (p : Post SpotPart) : Type 0 where
+  pub post : w.post ≡ p
+  pub lanes : w.lanes ≡ v.lanes
+  pub front : w.front ≡ v.front
+
+-- the seat knows what it knew
+pub record IsStill (v w : View SpotPart) : Type 0 where
+  pub lanes : w.lanes ≡ v.lanes
+  pub front : w.front ≡ v.front
+
+-- a seat that holds nothing, and one that offers the entry
+abbrev pub resting : ℕ → Post SpotPart
+resting n = empty_post idle n
+
+abbrev pub offering : ℕ → Post SpotPart
+offering n = record (resting n) { flight = Some token }
+
+-- the post of a seat that has the lock, under which the spot has this word and counts so
+abbrev pub locking : Post SpotPart → ℕ → ℕ → Post SpotPart
+locking p stored counted = record p { locks = lock_word ∷ []; own = part stored counted }
+
+-- the post once the lock is free
+abbrev pub freed_post : Post SpotPart → Post SpotPart
+freed_post p = record p { locks = []; own = idle }
+
+-- whether the lock was taken
+abbrev pub IsTried : ℕ → Bool → View SpotPart → View SpotPart → Type 0
+IsTried n true v w = (x : ℕ) × Goes v w (locking (resting n) x x)
+IsTried n false v w = Goes v w (resting n)
+
+-- whether an insert was offered, and whether it was placed
+abbrev pub offered_by : ℕ → Bool → Post SpotPart
+offered_by n true = offering n
+offered_by n false = resting n
+
+abbrev pub settled_by : ℕ → Option ℕ → Post SpotPart
+settled_by n (Some place) = resting n
+settled_by n None = offering n
+
+-- what a removal is answered
+abbrev pub taken_reply : Bool → Reply
+taken_reply true = replies.Got token
+taken_reply false = replies.Empty
+
+module _ {R : Type 0} where
+  abbrev pub Rests : Shared R SpotPart → SeatPass R SpotPart → Type 0
+  Rests q p = Belongs q p × ((view_of p).post ≡ resting p.number) × (19 ≤ q.words)
+
+  abbrev pub Offers : Shared R SpotPart → SeatPass R SpotPart → Type 0
+  Offers q p = Belongs q p × ((view_of p).post ≡ offering p.number) × (19 ≤ q.words)
