@@ -1,15 +1,18 @@
 -- What a word says of a node.
-use Rattle.std.proofs.Common.{◌≡◌, ◌⊎◌, ℕ, ◌≤◌, inl, inr, refl, ap, ◌∙◌, sym, subst, ⊎_elim, lit<}
+use Rattle.std.proofs.Common.{◌≡◌, ◌≢◌, ◌⊎◌, ℕ, ◌≤◌, ◌^◌, ◌%◌, inl, inr, refl, ap, ◌∙◌, sym, subst, ⊎_elim, lit<, arith}
 use Rattle.pq_words.specs.declared.entries.Entry.{Entry}
 use Rattle.pq_words.specs.Entries.{raw_of}
 use Rattle.pq_words.specs.declared.heap_words.Tag.{Tag}
 use Rattle.pq_words.specs.declared.heap_words.Tag.TheVariants as tags
 use Rattle.pq_words.specs.declared.heap_words.HeapWord.{HeapWord}
-use Rattle.pq_words.specs.HeapWords.{FitsHeapWord, heap_number}
+use Rattle.pq_words.specs.HeapWords.{tag_number, FitsTag, FitsHeapWord, heap_number}
+use Rattle.pq_words.specs.TaggedWords.{tagged_number}
+use Rattle.pq_words.proofs.Order.{raw_of-fits}
 use Rattle.pq_words.proofs.HeapNumbers.{one_heap_word}
 use Rattle.pq_hunt.specs.declared.nodes.Node.{Node}
 use Rattle.pq_hunt.specs.declared.nodes.Node.TheVariants.{Empty}
 use Rattle.pq_hunt.specs.Order.{HasWord, MayStandOver}
+use Rattle.pq_hunt.specs.Passes.{IsRank}
 use Rattle.pq_hunt.specs.Words.{node_with, node_of, Means}
 use Rattle.pq_hunt.specs.Laws.{WordsMeanOneNode}
 
@@ -42,6 +45,22 @@ pub may_word : (x : Entry) (v : Node) → (v ≡ Empty) ⊎ ((e : Entry) × HasW
     → MayStandOver x v
 may_word x v shown = ⊎_elim (λ e. subst (MayStandOver x) (sym e) tt)
     (λ w. ⊎_elim (λ q. subst (MayStandOver x) (sym q) w.2) (λ q. subst (MayStandOver x) (sym q.1) w.2) w.1) shown
+
+-- the number of an entry is in the low bits of its word
+pub entry_in_word : (w : HeapWord) (word : ℕ) → FitsHeapWord w → heap_number w ≡ word → raw_of w.entry ≡ word % 2 ^ 48
+entry_in_word w word fits is = by_tag w.tag w.owner w.entry fits is
+  where
+    by_tag : (t : Tag) (o : ℕ) (e : Entry) → FitsTag t o e → tagged_number (tag_number t) o (raw_of e) ≡ word
+        → raw_of e ≡ word % 2 ^ 48
+    by_tag tags.Empty o e fits is = let none = fits.0 in let low = raw_of-fits e in omega arith
+    by_tag tags.Available o e fits is = let low = raw_of-fits e in omega arith
+    by_tag tags.Busy o e fits is = let few = fits.last in let low = raw_of-fits e in omega arith
+
+-- which is the number that its node is compared by, where it is not Empty
+pub ranked : (t : Tag) (o : ℕ) (e : Entry) (x : ℕ) → t ≢ tags.Empty → x ≡ raw_of e → IsRank (node_with t o e) x
+ranked tags.Empty o e x ne is = absurd (ne refl)
+ranked tags.Available o e x ne is = is
+ranked tags.Busy o e x ne is = is
 
 -- the word 0 says that a node is Empty
 pub empty_means : Means Empty 0

@@ -7,6 +7,7 @@ ghost use Rattle.pq_hunt.specs.Tables.{IsHeapTable};
 
 use crate::layout::{HEAP_LOCK, lock_of};
 use crate::{HuntPass, HuntTable};
+use crossbeam_utils::Backoff;
 use std::sync::Wait;
 
 // Takes the heap's lock. The view names the size then.
@@ -20,7 +21,8 @@ pub(crate) fn take_heap<W: Wait>(table: &HuntTable, rt: &W, pass: &mut HuntPass)
     table.lock(rt, pass, HEAP_LOCK);
 }
 
-// Takes the lock of a node. The view has a guard for it then.
+// Takes the lock of a node. The view has a guard for it then. The first try stands here alone, so that it costs no call.
+#[inline]
 pub(crate) fn take_node<W: Wait>(table: &HuntTable, rt: &W, pass: &mut HuntPass, node: u32)
     requires table { IsHeapTable table.now }
     requires own { Belongs table.now pass.old }
@@ -29,6 +31,24 @@ pub(crate) fn take_node<W: Wait>(table: &HuntTable, rt: &W, pass: &mut HuntPass,
     ensures same { IsSamePass pass.old pass.new }
     ensures took { TookNode (view_of pass.old) (view_of pass.new) node }
 {
+    if table.try_lock(pass, lock_of(node)) {
+        return;
+    }
+    wait_for_node(table, rt, pass, node);
+}
+
+// Takes the lock of a node that another seat had at the first try.
+#[cold]
+#[inline(never)]
+fn wait_for_node<W: Wait>(table: &HuntTable, rt: &W, pass: &mut HuntPass, node: u32)
+    requires table { IsHeapTable table.now }
+    requires own { Belongs table.now pass.old }
+    requires node { (1 ≤ node) × (node ≤ (limits_of table.now).capacity) }
+    ensures own { Belongs table.now pass.new }
+    ensures same { IsSamePass pass.old pass.new }
+    ensures took { TookNode (view_of pass.old) (view_of pass.new) node }
+{
+    Backoff::new().snooze();
     table.lock(rt, pass, lock_of(node));
 }
 

@@ -161,10 +161,10 @@ fn rank(word: u64) -> u64
     requires { (counted : Node) × Means counted word }
     ensures { (counted : Node) → Means counted word → IsRank counted result }
 {
-    let unpacked = HeapWord::unpack(word);
-    match unpacked.tag {
+    match HeapWord::unpack(word).tag {
         Tag::Empty => RAW_LIMIT,
-        _ => unpacked.entry.raw(),
+        // the number of the entry, which a word has in its low bits: to unpack the entry and pack it again costs more
+        _ => word % RAW_LIMIT,
     }
 }
 
