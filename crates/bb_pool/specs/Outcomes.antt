@@ -3,7 +3,7 @@ use Rattle.std.specs.Prelude.{ℕ, ◌≡◌, ◌*◌, ◌<◌, ◌≤◌}
 use Rattle.pq_model.specs.declared.passes.Known.{Known}
 use Rattle.bb_problem.specs.Tree.{Tree, needed, unavoidable, open_at_first}
 use Rattle.bb_problem.specs.Meaning.{Meaning}
-use Rattle.bb_pool.specs.Endings.{EndsAt}
+use Rattle.bb_pool.specs.Endings.{EndsAt, IsFullMark}
 use Rattle.bb_pool.specs.declared.outcome.Outcome.{Outcome}
 use Rattle.bb_pool.specs.declared.outcome.Outcome.TheVariants as outcomes
 use Rattle.bb_pool.specs.declared.outcome.Stop.{Stop}
@@ -27,12 +27,14 @@ pub record IsOverLimit (needs nodes asked limit : ℕ) : Type 0 where
   pub over : limit < asked
   pub within : asked ≤ needs
 
--- It found the queue full at this place: the capacity is below the node limit and below what it has to make.
+-- It found the queue full at this place, where an insert was answered so: the capacity is below the node limit and
+-- below what it has to make.
 pub record IsFullAt (needs nodes capacity place : ℕ) : Type 0 where
   pub below_limit : capacity < nodes
   pub below_needed : capacity < needs
   pub from : capacity ≤ place
   pub until : place < 2 * needs
+  pub told : IsFullMark 1 capacity place
 
 -- What a best plan says of a search with one caller, whose pass has then made these calls.
 pub record IsBest {N P : Type 0} (m : Meaning N P) (nodes capacity : ℕ) (plan : P) (cost : ℕ) (known : Known)

@@ -1,24 +1,15 @@
 -- What the outcomes of a search by several workers mean.
-use Rattle.std.specs.Prelude.{ℕ, ◌≡◌, ◌+◌, ◌<◌, List, Some, IsSomeAnd, slice_get}
-use Rattle.pq_words.specs.declared.entries.Entry.{Entry}
-use Rattle.pq_model.specs.declared.marks.Act.TheVariants.{Insert}
-use Rattle.pq_model.specs.declared.marks.Reply.TheVariants as replies
-use Rattle.pq_model.specs.declared.marks.Mark.{Mark}
-use Rattle.pq_model.specs.History.{mark, IsLegal}
+use Rattle.std.specs.Prelude.{ℕ, ◌≡◌, ◌+◌, ◌<◌, IsSomeAnd}
 use Rattle.bb_problem.specs.Meaning.{Meaning}
 use Rattle.bb_shared.specs.declared.control.stop.Stop.{Stop}
 use Rattle.bb_shared.specs.declared.control.stop.Stop.TheVariants as stops
 use Rattle.bb_pool.specs.declared.outcome.Outcome.{Outcome}
 use Rattle.bb_pool.specs.declared.outcome.Outcome.TheVariants as outcomes
+use Rattle.bb_pool.specs.Endings.{IsFullMark}
 use Rattle.bb_pool.specs.Outcomes.{IsOptimal}
 use Rattle.bb_pool.specs.Underway.{cost_so_far}
 use Rattle.bb_pool.specs.LastCalls.{EndsBelow, EndsSomewhere}
 use Rattle.bb_pool.specs.Together.{Doing}
-
--- an insert was answered Full at this place of a legal history
-abbrev pub IsFullMark : ℕ → ℕ → ℕ → Type 0
-IsFullMark seats capacity place = (history : List Mark) × IsLegal seats capacity history
-    × (seat : ℕ) × (e : Entry) × (slice_get history place ≡ Some (mark seat (Insert e) replies.Full))
 
 -- What each outcome says, under this node limit, on a queue of this capacity and with so many seats. That there is no
 -- memory says nothing.

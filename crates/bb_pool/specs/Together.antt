@@ -1,5 +1,5 @@
 -- What a worker has at one moment, what is counted of it, how it goes on, and what workers are together.
-use Rattle.std.specs.Prelude.{ℕ, ◌≡◌, ◌+◌, ◌<◌, ◌≤◌, [], length, Contains, Option}
+use Rattle.std.specs.Prelude.{ℕ, ◌≡◌, ◌+◌, ◌<◌, ◌≤◌, [], length, Contains, Option, None}
 use Rattle.pq_words.specs.declared.entries.Entry.{Entry}
 use Rattle.pq_model.specs.declared.marks.Act.{Act}
 use Rattle.pq_model.specs.declared.marks.Act.TheVariants.{Insert}
@@ -7,14 +7,15 @@ use Rattle.pq_model.specs.declared.marks.Reply.{Reply}
 use Rattle.pq_model.specs.declared.marks.Reply.TheVariants.{Full}
 use Rattle.pq_model.specs.declared.passes.Lane.{Lane}
 use Rattle.pq_model.specs.declared.passes.Known.{Known}
-use Rattle.pq_model.specs.Passes.{call, lanes, numbers, Knows}
+use Rattle.pq_model.specs.Passes.{call, lanes, numbers, fresh, Knows}
 use Rattle.bb_problem.specs.Meaning.{Meaning}
 use Rattle.bb_shared.specs.declared.store.stored.Numbered.{Numbered}
 use Rattle.bb_shared.specs.declared.store.stored.Stored.{Stored}
 use Rattle.bb_shared.specs.declared.control.told.Told.{Told}
 use Rattle.bb_shared.specs.declared.control.stop.Stop.{Stop}
 use Rattle.bb_shared.specs.declared.control.stop.Stop.TheVariants as stops
-use Rattle.bb_shared.specs.Stores.{KnowsStore}
+use Rattle.bb_shared.specs.Stores.{KnowsStore, new_stored}
+use Rattle.bb_shared.specs.Controls.{new_told}
 use Rattle.bb_pool.specs.declared.found.Found.{Found}
 use Rattle.bb_pool.specs.declared.workers.shared.Worker.{Worker}
 use Rattle.bb_pool.specs.declared.workers.shared.Shared.{Shared}
@@ -89,6 +90,14 @@ pub record IsNumbered {N L : Type 0} (seats from to : ℕ) (w : Doing N L) : Typ
   pub parts : w.stored.parts + from ≡ to + 1
   pub control_seats : w.told.seats ≡ seats
   pub control_parts : w.told.parts + from ≡ to + 1
+
+-- One worker, of so many, that has done nothing.
+pub record IsNew {N L : Type 0} (seats n : ℕ) (w : Doing N L) : Type 0 where
+  pub known_is : w.known ≡ fresh n
+  pub stored_is : w.stored ≡ new_stored seats
+  pub told_is : w.told ≡ new_told seats
+  pub none : w.found ≡ None
+  pub made_is : w.made ≡ 0
 
 -- One worker, which has set no stop.
 pub record HasBegun {N L : Type 0} (m : Meaning N L) (nodes seats capacity n : ℕ) (w : Doing N L) : Type 0 where

@@ -17,7 +17,7 @@ use Rattle.bb_pool.specs.declared.state.Search.{Search}
 use Rattle.bb_pool.specs.OneSeat.{OneSeat, held}
 use Rattle.bb_pool.specs.Keys.{Holds}
 use Rattle.bb_pool.specs.Costs.{limit_of}
-use Rattle.bb_pool.specs.Endings.{EndsAt}
+use Rattle.bb_pool.specs.Endings.{EndsAt, IsFullMark}
 use Rattle.bb_pool.specs.Outcomes.{IsBest}
 use Rattle.bb_pool.specs.Searching.{IsSearching}
 
@@ -71,6 +71,7 @@ pub record IsPut {N P : Type 0} (before : State N P) (key : ℕ) (node : N) (now
 abbrev pub IsNotPut : {N P : Type 0} → State N P → Stop → Type 0
 IsNotPut before (Full place) =
     (length (held before.queue) ≡ before.queue.capacity) × (place ≡ length before.queue.known.calls)
+    × IsFullMark 1 before.queue.capacity place
 IsNotPut before NoMemory = Unit {0}
 IsNotPut before (NodeLimit asked) = ⊥
 

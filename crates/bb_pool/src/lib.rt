@@ -19,3 +19,4 @@ mod workers;
 pub use limits::MAX_NODES;
 pub use outcome::Outcome;
 pub use plain::search_plain;
+pub use workers::search;

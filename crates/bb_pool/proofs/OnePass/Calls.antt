@@ -1,9 +1,9 @@
 -- What a call of the queue did, said of a search's fields.
 use Rattle.std.proofs.Common.{◌≡◌, ℕ, ◌+◌, ◌<◌, ◌≤◌, List, [], ◌∷◌, ◌++◌, length, set, Some, None, refl, sym, ap, ◌∙◌, subst, arith}
-use Rattle.std.specs.Prelude.{slice_get, All, IfSome, IsSomeAnd}
+use Rattle.std.specs.Prelude.{slice_get, All, Contains, IfSome, IsSomeAnd}
 use Rattle.std.proofs.Math.Seq.{take-append_seam}
 use Rattle.std.proofs.lemmas.List.{length-append, map-append}
-use Rattle.std.proofs.lemmas.List.Elements.{All-head}
+use Rattle.std.proofs.lemmas.List.Elements.{All-head, Contains-append_right}
 use Rattle.pq_words.specs.declared.entries.Entry.{Entry}
 use Rattle.pq_model.specs.declared.marks.Act.{Act}
 use Rattle.pq_model.specs.declared.marks.Act.TheVariants.{Insert, RemoveBelow}
@@ -14,7 +14,9 @@ use Rattle.pq_model.specs.declared.passes.Call.{Call}
 use Rattle.pq_model.specs.declared.passes.Known.{Known}
 use Rattle.pq_model.specs.Multiset.{least}
 use Rattle.pq_model.specs.History.{mark, IsLegal, left}
-use Rattle.pq_model.specs.Passes.{call, Knows, fresh, with_call}
+use Rattle.pq_model.specs.declared.passes.Lane.{Lane}
+use Rattle.pq_model.specs.Passes.{call, calls_of, lane, Knows, fresh, with_call}
+use Rattle.pq_model.proofs.Lanes.{mark_of_call}
 use Rattle.pq_model.proofs.Multisets.{with_least}
 use Rattle.pq_api.specs.Plain.{marks_of}
 use Rattle.pq_api.specs.Laws.{OneSeatHasMadeAll, OneSeatSteps, FullWithOneSeat}
@@ -22,8 +24,9 @@ use Rattle.bb_problem.specs.Meaning.{Meaning, IsLawful}
 use Rattle.bb_pool.specs.declared.child.Child.{Child}
 use Rattle.bb_pool.specs.OneSeat.{held}
 use Rattle.bb_pool.specs.Costs.{limit_of}
-use Rattle.bb_pool.specs.Endings.{EndsAt}
+use Rattle.bb_pool.specs.Endings.{EndsAt, IsFullMark}
 use Rattle.bb_pool.specs.Underway.{State, cost_so_far, IsFound, IsUnderway, IsPut, IsTaken, IsSpent}
+use Rattle.bb_pool.proofs.Members.{Contains-here}
 use Rattle.bb_pool.proofs.Names.{slice_get-new}
 use Rattle.bb_pool.proofs.Searches.{root_waits}
 use Rattle.bb_pool.proofs.OnePass.Turns.{same_search}
@@ -58,6 +61,13 @@ full_made full alone capacity place before now e one called (history, w) =
     let legal : IsLegal 1 capacity (marks ++ last ∷ []) = subst (IsLegal 1 capacity) more w.legal in
     let size = (full capacity (length marks) before.number (marks ++ last ∷ []) e Full legal (slice_get-new marks last)).0 refl in
     ap (λ (h : List Mark). length (left h)) (sym (take-append_seam marks (last ∷ []))) ∙ size
+
+-- and an insert was answered so
+pub full_mark : (capacity place : ℕ) (before now : Known) (e : Entry) → now ≡ with_call before place (Insert e) Full → Knows 1 capacity now → IsFullMark 1 capacity place
+full_mark capacity place before now e is (history, w) = let made : Call = call place (Insert e) Full in
+    let mine : calls_of now.number history ≡ now.calls = All-head (λ (l : Lane). calls_of l.number history ≡ l.calls) (lane now.number now.calls) now.joined w.holds in
+    let there : Contains now.calls made = subst (λ (cs : List Call). Contains cs made) (sym (ap (λ (k : Known). k.calls) is)) (Contains-append_right before.calls (made ∷ []) made (Contains-here made [])) in
+    (history, w.legal, now.number, e, mark_of_call now.number history made (subst (λ (cs : List Call). Contains cs made) (sym mine) there))
 
 pub take_made : {N P : Type 0} {before now : State N P} {child : Child N} (e : Entry) (place limit : ℕ) → OneSeatSteps → before.queue.known.number ≡ 1
     → limit ≡ limit_of (cost_so_far before.best) → e.key < limit → now.queue.known ≡ with_call before.queue.known place (RemoveBelow limit) (Got e) → Knows 1 before.queue.capacity now.queue.known

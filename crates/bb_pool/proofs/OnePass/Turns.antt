@@ -25,7 +25,7 @@ use Rattle.bb_pool.specs.declared.child.Child.{Child}
 use Rattle.bb_pool.specs.declared.found.Found.{Found}
 use Rattle.bb_pool.specs.Limits.{max_nodes}
 use Rattle.bb_pool.specs.Costs.{is_better, limit_of, IsAtLeast}
-use Rattle.bb_pool.specs.Endings.{EndsAt}
+use Rattle.bb_pool.specs.Endings.{EndsAt, IsFullMark}
 use Rattle.bb_pool.specs.Outcomes.{IsStop, IsOutcome, IfNodeLimit, outcome_of}
 use Rattle.bb_pool.specs.Children.{StandAt, better_names}
 use Rattle.bb_pool.specs.Searching.{name_at, StandsFor, IsSearching}
@@ -75,7 +75,7 @@ stop_not_put m nodes capacity before name waiting (NodeLimit asked) u why room =
 stop_not_put m nodes capacity before name waiting NoMemory u why room = tt
 stop_not_put m nodes capacity before name waiting (Full place) u why room =
     let calls = u.calls in let few = u.searching.few in let budget = u.searching.counted.budget in let capacity_is = u.capacity_is in let full = why.0 in let at = why.1 in
-    record { below_limit = omega arith; below_needed = omega arith; from = omega arith; until = omega arith }
+    record { below_limit = omega arith; below_needed = omega arith; from = omega arith; until = omega arith; told = subst (λ (c : ℕ). IsFullMark 1 c place) u.capacity_is why.2 }
 
 -- the search as it stands once its least entry is removed and its node is not yet expanded
 taken_searching : {N P : Type 0} {m : Meaning N P} {nodes capacity : ℕ} {before now : State N P} {child : Child N}
@@ -194,7 +194,7 @@ pub each_stored : {N P : Type 0} {m : Meaning N P} {nodes capacity : ℕ} {searc
 each_stored {m} {search} u = All-weaker (StandsFor m u.names search.store) (IsStored search.store) (λ e s. (s.node, s.stored)) (held search.queue) u.searching.each
 
 -- where the least key is not below a limit, none is
-from_least : (cost : ℕ) (m : List Entry) → IsRising m → IfSome (least m) (λ (e : Entry). cost ≤ e.key) → All (λ (e : Entry). cost ≤ e.key) m
+pub from_least : (cost : ℕ) (m : List Entry) → IsRising m → IfSome (least m) (λ (e : Entry). cost ≤ e.key) → All (λ (e : Entry). cost ≤ e.key) m
 from_least cost [] rising high = All-nil (λ (e : Entry). cost ≤ e.key)
 from_least cost (x ∷ xs) rising high = All-cons (λ (e : Entry). cost ≤ e.key) x xs high
     (All-weaker (λ (y : Entry). raw_of x ≤ raw_of y) (λ (e : Entry). cost ≤ e.key) (λ y le. let more = key_le x y le in omega arith) xs rising.0)

@@ -13,15 +13,17 @@ use Rattle.bb_shared.specs.declared.store.stored.Stored.{Stored}
 use Rattle.bb_shared.specs.declared.control.told.Told.{Told}
 use Rattle.bb_shared.specs.declared.control.stop.Stop.{Stop}
 use Rattle.bb_shared.specs.declared.control.stop.Stop.TheVariants as stops
-use Rattle.bb_shared.specs.Stores.{KnowsStore, numbered, draw_of, with_draw, stores_joined, new_stored}
-use Rattle.bb_shared.specs.Controls.{IsStopSet, IsStopRead, controls_joined, new_told}
+use Rattle.bb_shared.specs.Stores.{KnowsStore, numbered, draw_of, with_draw, stores_joined, new_stored, new_store_seat}
+use Rattle.bb_shared.specs.Controls.{IsStopSet, IsStopRead, controls_joined, new_told, new_control_seat}
 use Rattle.pq_model.specs.declared.marks.Act.TheVariants.{Insert}
 use Rattle.pq_model.specs.declared.marks.Reply.TheVariants.{Done}
 use Rattle.bb_pool.specs.declared.child.Child.{Child}
 use Rattle.bb_pool.specs.Room.{all_inserts}
 use Rattle.bb_pool.specs.Limits.{idle_calls}
 use Rattle.bb_pool.specs.Working.{HasMade, IsRooted}
-use Rattle.bb_pool.specs.Together.{Doing, AtWork, IsCounted, Follows, GoesOn, IsCause, IsNumbered, HasBegun, IsTogether}
+use Rattle.bb_pool.specs.Together.{Doing, AtWork, IsCounted, Follows, GoesOn, IsCause, IsNumbered, IsNew, HasBegun, IsTogether, doing, IsOneOf}
+use Rattle.bb_pool.specs.declared.workers.shared.Worker.{Worker}
+use Rattle.bb_pool.specs.declared.workers.shared.Shared.{Shared}
 use Rattle.bb_pool.specs.Turns.{IsHalt, IsPut}
 use Rattle.bb_pool.specs.Runs.{HasRun, HasStopped, IsStill, IsJoinedOf}
 use Rattle.bb_pool.proofs.Members.{none_in_empty, Contains-here, Contains-cases, Contains-left, Contains-right, Contains-either}
@@ -261,10 +263,17 @@ together_joined {m} {nodes} {from} {to} {last} {v} {o} {w} after some up j a b =
 none_below : (x : ℕ) → ◌≡◌ {A = ℕ} 0 (if nat_lt x 0 then 1 else 0)
 none_below x = grind (arith, nat_tests)
 
+-- a worker that was made of a new pass and new seats
+pub made_new : {Q A N L : Type 0} (belongs : Q → A → Type 0) (known : A → Known) (shared : Shared Q N) (count n : ℕ) (w : Worker A N L) → belongs shared.queue w.pass → known w.pass ≡ fresh n → w.seat ≡ new_store_seat shared.store count → w.control ≡ new_control_seat shared.control count
+    → w.found ≡ None → w.made ≡ 0 → IsOneOf belongs shared w × IsNew count n (doing known w)
+made_new belongs known shared count n w own new seat control found made = (
+  (own, ap (λ s. s.store) seat, ap (λ c. c.control) control),
+  record { known_is = new; stored_is = ap (λ s. s.kept) seat; told_is = ap (λ c. c.kept) control; none = found; made_is = made },
+)
+
 -- a worker that has done nothing
-pub new_together : {N L : Type 0} (m : Meaning N L) (nodes seats capacity n : ℕ) (v : Doing N L) → 1 ≤ n → n ≤ seats → v.known ≡ fresh n → v.stored ≡ new_stored seats → v.told ≡ new_told seats → v.found ≡ None → v.made ≡ 0
-    → HasBegun m nodes seats capacity n v
-new_together m nodes seats capacity n v low high known stored told found made = reached (HasBegun m nodes seats capacity n) known stored told found made (record {
+pub new_together : {N L : Type 0} (m : Meaning N L) (nodes seats capacity n : ℕ) (v : Doing N L) → IsNew seats n v → HasBegun m nodes seats capacity n v
+new_together m nodes seats capacity n v new = reached (HasBegun m nodes seats capacity n) new.known_is new.stored_is new.told_is new.none new.made_is (record {
   numbered = record {
     each = λ i le more. (0, omega arith, (let e : n ≡ i = omega arith in e));
     only = λ i there. elim (Contains-cases n i [] there) [ inl same ↦ (omega arith, omega arith) | inr nil ↦ absurd (none_in_empty i nil) ];
