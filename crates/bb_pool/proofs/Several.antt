@@ -12,5 +12,7 @@ pub mod Counting
 pub mod Turns
 pub mod Room
 pub mod Each
+pub mod Origins
+pub mod Traced
 pub mod Runs
 pub mod Answers

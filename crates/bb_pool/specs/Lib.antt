@@ -13,6 +13,7 @@ pub mod Underway
 pub mod Working
 pub mod Room
 pub mod LastCalls
+pub mod Origins
 pub mod Together
 pub mod Turns
 pub mod Runs

@@ -24,7 +24,7 @@ pub record HasRun {N L : Type 0} (m : Meaning N L) (nodes idle : ℕ) (v w : Doi
 pub record HasStopped {N L : Type 0} (nodes : ℕ) (v w : Doing N L) (stop : Stop) : Type 0 where
   pub follows : Follows v w
   pub counted : IsCounted nodes (idle_calls + 1) w
-  pub cause : IsCause nodes w.known stop
+  pub cause : IsCause nodes w.known w.stored.draws stop
   pub tellable : IsTellable stop
 
 -- What looking at the control leaves as it was.

@@ -16,7 +16,8 @@ use Rattle.bb_pool.specs.Together.{Doing}
 abbrev pub IsSearchOutcome : {N P : Type 0} → Meaning N P → ℕ → ℕ → ℕ → Outcome P → Type 0
 IsSearchOutcome m nodes capacity seats (outcomes.Best plan cost) =
     IsOptimal m.is_feasible m.cost_of plan cost × EndsSomewhere seats capacity cost
-IsSearchOutcome m nodes capacity seats (outcomes.NodeLimit asked limit) = (limit ≡ nodes) × (limit < asked)
+IsSearchOutcome m nodes capacity seats (outcomes.NodeLimit asked limit) =
+    (limit ≡ nodes) × (limit < asked) × (limit < m.tree_size)
 IsSearchOutcome m nodes capacity seats (outcomes.Full place) =
     (capacity < nodes + seats) × IsFullMark seats capacity place
 IsSearchOutcome m nodes capacity seats outcomes.NoMemory = Unit {0}

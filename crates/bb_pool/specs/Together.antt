@@ -1,5 +1,5 @@
 -- What a worker has at one moment, what is counted of it, how it goes on, and what workers are together.
-use Rattle.std.specs.Prelude.{ℕ, ◌≡◌, ◌+◌, ◌<◌, ◌≤◌, [], length, Contains, Option, None}
+use Rattle.std.specs.Prelude.{ℕ, ◌≡◌, ◌+◌, ◌<◌, ◌≤◌, List, [], length, Contains, Option, None}
 use Rattle.pq_words.specs.declared.entries.Entry.{Entry}
 use Rattle.pq_model.specs.declared.marks.Act.{Act}
 use Rattle.pq_model.specs.declared.marks.Act.TheVariants.{Insert}
@@ -9,6 +9,7 @@ use Rattle.pq_model.specs.declared.passes.Lane.{Lane}
 use Rattle.pq_model.specs.declared.passes.Known.{Known}
 use Rattle.pq_model.specs.Passes.{call, lanes, numbers, fresh, Knows}
 use Rattle.bb_problem.specs.Meaning.{Meaning}
+use Rattle.bb_shared.specs.declared.store.stored.Draw.{Draw}
 use Rattle.bb_shared.specs.declared.store.stored.Numbered.{Numbered}
 use Rattle.bb_shared.specs.declared.store.stored.Stored.{Stored}
 use Rattle.bb_shared.specs.declared.control.told.Told.{Told}
@@ -22,6 +23,7 @@ use Rattle.bb_pool.specs.declared.workers.shared.Shared.{Shared}
 use Rattle.bb_pool.specs.Limits.{idle_calls}
 use Rattle.bb_pool.specs.Room.{all_inserts}
 use Rattle.bb_pool.specs.Working.{HasMade, IsRooted, IsWorking}
+use Rattle.bb_pool.specs.Origins.{IsTraced, IsTracedFrom}
 
 -- What a worker has at one moment: what its pass keeps, what its seats keep, the best plan that it found, and how many
 -- calls it has counted.
@@ -75,12 +77,14 @@ pub record GoesOn {N L : Type 0} (nodes more : ℕ) (v w : Doing N L) : Type 0 w
   pub follows : Follows v w
   pub counted : (idle after : ℕ) → after ≡ idle + more → IsCounted nodes idle v → IsCounted nodes after w
 
--- What a stop rests on: more nodes than the limit were asked for, or an insert at this place was answered Full.
-abbrev pub IsCause : ℕ → Known → Stop → Type 0
-IsCause nodes k (stops.NodeLimit asked) = nodes < asked
-IsCause nodes k (stops.Full place) =
+-- What a stop rests on: more nodes than the limit were asked for by a draw, or an insert at this place was answered
+-- Full.
+abbrev pub IsCause : ℕ → Known → List Draw → Stop → Type 0
+IsCause nodes k draws (stops.NodeLimit asked) =
+    (nodes < asked) × (d : Draw) × Contains draws d × (d.first < asked) × (d.first + d.count ≡ asked)
+IsCause nodes k draws (stops.Full place) =
     (e : Entry) × (l : Lane) × Contains (lanes k) l × Contains l.calls (call place (Insert e) Full)
-IsCause nodes k stops.NoMemory = Unit {0}
+IsCause nodes k draws stops.NoMemory = Unit {0}
 
 -- These are the workers of these numbers, of so many in all, joined into one.
 pub record IsNumbered {N L : Type 0} (seats from to : ℕ) (w : Doing N L) : Type 0 where
@@ -99,21 +103,23 @@ pub record IsNew {N L : Type 0} (seats n : ℕ) (w : Doing N L) : Type 0 where
   pub none : w.found ≡ None
   pub made_is : w.made ≡ 0
 
--- One worker, which has set no stop.
+-- One worker, which has set no stop, and has drawn no number.
 pub record HasBegun {N L : Type 0} (m : Meaning N L) (nodes seats capacity n : ℕ) (w : Doing N L) : Type 0 where
   pub numbered : IsNumbered seats n n w
   pub counted : IsCounted nodes idle_calls w
   pub none : w.told.stops ≡ []
   pub working : AtWork m w
   pub knows : Knows seats capacity w.known
+  pub traced : IsTraced m None [] w.stored
 
 -- The workers of these numbers, joined into one. Where none of them has set a stop, they have accounted for all that
--- they removed, and the first of all has put and inserted the root.
+-- they removed, and the first of all has put and inserted the root. Each number that they drew is traced.
 pub record IsTogether {N L : Type 0} (m : Meaning N L) (nodes seats capacity idle from to : ℕ)
     (w : Doing N L) : Type 0 where
   pub numbered : IsNumbered seats from to w
   pub counted : IsCounted nodes idle w
-  pub causes : (stop : Stop) → Contains w.told.stops stop → IsCause nodes w.known stop
+  pub causes : (stop : Stop) → Contains w.told.stops stop → IsCause nodes w.known w.stored.draws stop
   pub working : w.told.stops ≡ [] → AtWork m w
   pub knows : Knows seats capacity w.known
   pub rooted : from ≡ 1 → w.told.stops ≡ [] → IsRooted m w.known w.stored.puts
+  pub traced : IsTracedFrom m from w.stored

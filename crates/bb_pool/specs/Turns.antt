@@ -76,4 +76,4 @@ IsTurn m nodes seats capacity v w Idle = GoesOn nodes 1 v w × AtWork m w × End
 
 -- A stop comes with its cause, and can be told.
 abbrev pub IsHalt : {N L : Type 0} → ℕ → Doing N L → Doing N L → Stop → Type 0
-IsHalt nodes v w stop = GoesOn nodes 0 v w × IsCause nodes w.known stop × IsTellable stop
+IsHalt nodes v w stop = GoesOn nodes 0 v w × IsCause nodes w.known w.stored.draws stop × IsTellable stop

@@ -1,6 +1,7 @@
 -- What the outcome says, once all workers are joined: of a stop, and of the best plan.
-use Rattle.std.proofs.Common.{◌≡◌, ℕ, ◌+◌, ◌<◌, ◌≤◌, false, List, [], Option, Some, None, refl, sym, subst, arith}
-use Rattle.std.specs.Prelude.{Contains, IsSome, IsSomeAnd}
+use Rattle.std.proofs.Common.{◌≡◌, ℕ, ◌+◌, ◌<◌, ◌≤◌, false, List, [], Option, Some, None, refl, sym, subst, inl, inr, arith}
+use Rattle.std.specs.Prelude.{Contains, IsSomeAnd}
+use Rattle.std.proofs.lemmas.Bool.{cases_lt}
 use Rattle.std.proofs.lemmas.List.Elements.{All-contains, All-weaker}
 use Rattle.pq_words.specs.declared.entries.Entry.{Entry}
 use Rattle.pq_model.specs.declared.passes.Call.{Call}
@@ -14,6 +15,7 @@ use Rattle.pq_model.specs.Laws.{LeftRises}
 use Rattle.pq_model.proofs.Lanes.{mark_of_call}
 use Rattle.pq_api.specs.Plain.{marks_of}
 use Rattle.pq_api.specs.Laws.{OneSeatHasMadeAll}
+use Rattle.bb_problem.specs.Limits.{size_limit}
 use Rattle.bb_problem.specs.Meaning.{Meaning, IsLawful}
 use Rattle.bb_shared.specs.Costs.{IsLower}
 use Rattle.bb_shared.specs.declared.control.stop.Stop.{Stop}
@@ -23,7 +25,9 @@ use Rattle.bb_pool.specs.declared.outcome.Outcome.{Outcome}
 use Rattle.bb_pool.specs.declared.outcome.Outcome.TheVariants as outcomes
 use Rattle.bb_pool.specs.Costs.{is_better}
 use Rattle.bb_pool.specs.Endings.{IsFullMark}
-use Rattle.bb_pool.specs.Outcomes.{IsOptimal, IsOutcome}
+use Rattle.bb_pool.specs.Limits.{max_nodes}
+use Rattle.bb_pool.specs.Outcomes.{IsOptimal, IsOutcome, IfNodeLimit}
+use Rattle.bb_pool.specs.Origins.{IsTracedFrom}
 use Rattle.bb_pool.specs.Underway.{cost_so_far, best_outcome}
 use Rattle.bb_pool.specs.LastCalls.{IsWhole, EndsBelow}
 use Rattle.bb_pool.specs.Together.{Doing, AtWork, IsCounted, IsNumbered, IsCause, IsTogether, GoesOn}
@@ -36,15 +40,24 @@ use Rattle.bb_pool.proofs.Several.Turning.{rooted_more}
 use Rattle.bb_pool.proofs.Several.Ending.{none_left}
 use Rattle.bb_pool.proofs.Several.Growing.{best_is_optimal}
 use Rattle.bb_pool.proofs.Several.Room.{full_needs_room}
+use Rattle.bb_pool.proofs.Several.Traced.{drawn_within_size}
 use Rattle.bb_pool.proofs.Several.Runs.{numbered_more, follows_further}
 
 pub whole_of : {N L : Type 0} {seats : ℕ} {w : Doing N L} → IsNumbered seats 1 seats w → IsWhole seats w.known
 whole_of t n is = t.each n is.0 is.1
 
-pub stop_answer : {N L : Type 0} (m : Meaning N L) (nodes seats capacity idle : ℕ) (w : Doing N L) (stop : Stop) → IsNumbered seats 1 seats w → IsCounted nodes idle w → Knows seats capacity w.known → IsCause nodes w.known stop → IsSearchStop m nodes capacity seats stop
-stop_answer m nodes seats capacity idle w (stops.NodeLimit asked) t c knows cause = (refl, cause)
-stop_answer m nodes seats capacity idle w stops.NoMemory t c knows cause = tt
-stop_answer m nodes seats capacity idle w (stops.Full place) t c (history, is) (e, l, has, there) =
+pub stop_answer : {N L : Type 0} (m : Meaning N L) (nodes seats capacity idle : ℕ) (w : Doing N L) (stop : Stop) → IsLawful m → nodes ≤ max_nodes → IsNumbered seats 1 seats w → IsCounted nodes idle w → Knows seats capacity w.known → IsTracedFrom m 1 w.stored → IsCause nodes w.known w.stored.draws stop
+    → IsSearchStop m nodes capacity seats stop
+stop_answer m nodes seats capacity idle w (stops.NodeLimit asked) laws few t c knows (root, alone, traced) (over, d, has, low, is) = (
+  refl,
+  over,
+  elim (cases_lt m.tree_size size_limit) [
+    | inl small ↦ (let within = drawn_within_size m root w.stored nodes traced c.knows (let a = t.parts in let b = t.seats_are in omega arith) laws d asked has low is small in omega arith)
+    | inr large ↦ omega arith
+  ],
+)
+stop_answer m nodes seats capacity idle w stops.NoMemory laws few t c knows traced cause = tt
+stop_answer m nodes seats capacity idle w (stops.Full place) laws few t c (history, is) traced (e, l, has, there) =
     let made : Call = call place (Insert e) replies.Full in
     let few = c.inserts in let nodes_put = c.knows.few_puts in
     let same : calls_of l.number history ≡ l.calls = All-contains (λ (x : Lane). calls_of x.number history ≡ x.calls) (lanes w.known) l is.holds has in (
@@ -66,17 +79,13 @@ solved {m} {nodes} {seats} {capacity} {idle} {u} {v} {w} laws none t r on work e
           (rooted_more m u.known w.known u.stored.puts w.stored.puts f.calls f.puts (t.rooted refl none)) last.0 knows store_parts (subst (λ (o : Option ℕ). IsLower w.told.own o) (sym last.1) (λ x better. better));
     }
 
-pub some_found : {N L : Type 0} (m : Meaning N L) (found : Option (Found L)) → IsSomeAnd found (λ f. IsOptimal m.is_feasible m.cost_of f.plan f.cost) → IsSome found
-some_found m None is = absurd is
-some_found m (Some f) is = refl
-
 pub best_answer : {N L : Type 0} (m : Meaning N L) (nodes seats capacity : ℕ) (k : Known) (found : Option (Found L)) → EndsBelow seats capacity k (cost_so_far found) → IsSomeAnd found (λ f. IsOptimal m.is_feasible m.cost_of f.plan f.cost) → IsSearchOutcome m nodes capacity seats (best_outcome found)
 best_answer m nodes seats capacity k None ends is = absurd is
 best_answer m nodes seats capacity k (Some f) ends is = (is, (ends.history, ends.witnessed.legal, none_left seats capacity k (Some f.cost) ends))
 
 -- what a search with one caller says, said as that of several
-pub one_outcome : {N L : Type 0} (m : Meaning N L) (nodes capacity seats : ℕ) (out : Outcome L) → seats ≡ 1 → OneSeatHasMadeAll → LeftRises → IsOutcome m nodes capacity out → IsSearchOutcome m nodes capacity seats out
-one_outcome m nodes capacity seats (outcomes.Best plan cost) one alone rises (k, is) = let ended = is.ended in let history = ended.knows.0 in let w = ended.knows.1 in
+pub one_outcome : {N L : Type 0} (m : Meaning N L) (nodes capacity seats : ℕ) (out : Outcome L) → seats ≡ 1 → OneSeatHasMadeAll → LeftRises → IfNodeLimit out (λ asked limit. limit < m.tree_size) → IsOutcome m nodes capacity out → IsSearchOutcome m nodes capacity seats out
+one_outcome m nodes capacity seats (outcomes.Best plan cost) one alone rises low (k, is) = let ended = is.ended in let history = ended.knows.0 in let w = ended.knows.1 in
     let whole : history ≡ marks_of k = alone capacity k history w.legal w.holds ended.number in
     let legal : IsLegal 1 capacity (marks_of k) = subst (IsLegal 1 capacity) whole w.legal in
     let high = from_least cost (left (marks_of k)) (rises (marks_of k)) ended.at_least in (
@@ -87,9 +96,15 @@ one_outcome m nodes capacity seats (outcomes.Best plan cost) one alone rises (k,
         All-weaker (λ (e : Entry). cost ≤ e.key) (λ (e : Entry). is_better e.key (Some cost) ≡ false) (λ e le. from_limit e.key (Some cost) e.key_fits le) (left (marks_of k)) high,
       ),
     )
-one_outcome m nodes capacity seats (outcomes.NodeLimit asked limit) one alone rises is = (is.limit_is, is.over)
-one_outcome m nodes capacity seats (outcomes.Full place) one alone rises is = ((let low = is.below_limit in omega arith), subst (λ (n : ℕ). IsFullMark n capacity place) (sym one) is.told)
-one_outcome m nodes capacity seats outcomes.NoMemory one alone rises is = tt
+one_outcome m nodes capacity seats (outcomes.NodeLimit asked limit) one alone rises low is = (is.limit_is, is.over, low)
+one_outcome m nodes capacity seats (outcomes.Full place) one alone rises low is = ((let below = is.below_limit in omega arith), subst (λ (n : ℕ). IsFullMark n capacity place) (sym one) is.told)
+one_outcome m nodes capacity seats outcomes.NoMemory one alone rises low is = tt
+
+pub size_outcome : {N L : Type 0} (m : Meaning N L) (nodes capacity seats : ℕ) (out : Outcome L) → IsSearchOutcome m nodes capacity seats out → IfNodeLimit out (λ asked limit. limit < m.tree_size)
+size_outcome m nodes capacity seats (outcomes.Best plan cost) is = tt
+size_outcome m nodes capacity seats (outcomes.NodeLimit asked limit) is = is.2
+size_outcome m nodes capacity seats (outcomes.Full place) is = tt
+size_outcome m nodes capacity seats outcomes.NoMemory is = tt
 
 -- all control seats are joined, and the stop that was read is one of those that were set
 pub all_told : {N L : Type 0} {seats : ℕ} {w : Doing N L} → IsNumbered seats 1 seats w → w.told.parts ≡ w.told.seats

@@ -1,5 +1,5 @@
 -- What is counted of a worker, by each step that it makes.
-use Rattle.std.proofs.Common.{◌≡◌, ℕ, ◌+◌, ◌-◌, ◌<◌, ◌≤◌, List, [], ◌∷◌, ◌++◌, length, Option, refl, sym, ap, ◌∙◌, subst, arith, length-append}
+use Rattle.std.proofs.Common.{◌≡◌, ℕ, ◌+◌, ◌≤◌, List, [], ◌∷◌, ◌++◌, Option, refl, sym, ap, ◌∙◌, subst, arith, length-append}
 use Rattle.pq_words.specs.declared.entries.Entry.{Entry}
 use Rattle.pq_model.specs.declared.marks.Act.{Act}
 use Rattle.pq_model.specs.declared.marks.Act.TheVariants.{Insert, Remove, RemoveBelow}
@@ -8,7 +8,6 @@ use Rattle.pq_model.specs.declared.marks.Reply.TheVariants as replies
 use Rattle.pq_model.specs.declared.passes.Call.{Call}
 use Rattle.pq_model.specs.declared.passes.Known.{Known}
 use Rattle.pq_model.specs.Passes.{call, lanes, with_call, joined_with}
-use Rattle.pq_api.specs.Limits.{call_limit}
 use Rattle.bb_problem.specs.Tree.{total}
 use Rattle.bb_shared.specs.declared.store.stored.Numbered.{Numbered}
 use Rattle.bb_shared.specs.declared.store.stored.Draw.{Draw}
@@ -17,7 +16,6 @@ use Rattle.bb_shared.specs.declared.control.told.Told.{Told}
 use Rattle.bb_shared.specs.Stores.{KnowsStore, with_draw, with_put, with_take}
 use Rattle.bb_shared.specs.Controls.{IsRead}
 use Rattle.bb_pool.specs.declared.found.Found.{Found}
-use Rattle.bb_pool.specs.Limits.{max_nodes}
 use Rattle.bb_pool.specs.Room.{done, inserts_of, all_inserts}
 use Rattle.bb_pool.specs.Together.{Doing, IsCounted, CanGoOn, GoesOn}
 use Rattle.bb_pool.proofs.Members.{Contains-left}
@@ -77,10 +75,6 @@ module _ {N L : Type 0} where
   -- and of a state that has these values
   pub reached : (P : Doing N L → Type 0) {w : Doing N L} {k : Known} {s : Stored N} {c : Told} {found : Option (Found L)} {made : ℕ} → w.known ≡ k → w.stored ≡ s → w.told ≡ c → w.found ≡ found → w.made ≡ made → P (state k s c found made) → P w
   reached P a b d e f p = subst P (λ i. state (sym a i) (sym b i) (sym d i) (sym e i) (sym f i)) p
-
-  -- another call is allowed
-  pub can_call : (nodes : ℕ) (w : Doing N L) → nodes ≤ max_nodes → CanGoOn nodes w → length w.known.calls < call_limit - 1
-  can_call nodes w few (idle, le, c) = let made = c.made_is in let bound = c.few in let puts = c.knows.few_puts in let takes = c.knows.few_takes in omega arith
 
   pub can_go_on : (nodes : ℕ) (v w : Doing N L) → GoesOn nodes 0 v w → CanGoOn nodes v → CanGoOn nodes w
   can_go_on nodes v w g (idle, le, c) = (idle, le, g.counted idle idle (omega arith) c)

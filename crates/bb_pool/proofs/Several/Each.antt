@@ -23,9 +23,6 @@ length_rest {X} (x ∷ xs) ys is some = subst (λ (l : List X). 1 + length l ≡
 abbrev pub EachFrom : {X : Type 0} → ℕ → (ℕ → X → Type 0) → List X → Type 0
 EachFrom n P xs = (k : ℕ) (d : _) → k < length xs → P (n + k) (slice_index_or xs k d)
 
-pub from_start : {X : Type 0} (P : ℕ → X → Type 0) (xs : List X) → EachAt P xs → EachFrom 0 P xs
-from_start P xs all k d lt = let same : k ≡ 0 + k = omega arith in subst (λ j. P j (slice_index_or xs k d)) same (all k d lt)
-
 pub first_of : {X : Type 0} (n : ℕ) (P : ℕ → X → Type 0) (x : X) (xs : List X) → EachFrom n P (x ∷ xs) → P n x
 first_of n P x xs all = let same : n + 0 ≡ n = omega arith in subst (λ j. P j x) same (all 0 x (omega arith))
 

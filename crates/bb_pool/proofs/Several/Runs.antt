@@ -1,5 +1,5 @@
 -- What a worker's run keeps of what it is together with, and what two have that are joined.
-use Rattle.std.proofs.Common.{◌≡◌, ℕ, ◌+◌, ◌<◌, ◌≤◌, true, List, [], ◌∷◌, ◌++◌, length, length-append, map, Option, None, refl, sym, ap, ◌∙◌, subst, inl, inr, arith}
+use Rattle.std.proofs.Common.{◌≡◌, ◌≢◌, ℕ, ◌+◌, ◌<◌, ◌≤◌, true, List, [], ◌∷◌, ◌++◌, length, length-append, map, Option, None, refl, sym, ap, ◌∙◌, subst, inl, inr, arith}
 use Rattle.std.specs.Prelude.{Contains, nat_lt, if◌then◌else◌}
 use Rattle.std.proofs.lemmas.Bool.{cases_lt}
 use Rattle.std.proofs.lemmas.Bool.Decides.{nat_tests}
@@ -9,6 +9,7 @@ use Rattle.pq_model.specs.declared.passes.Known.{Known}
 use Rattle.pq_model.specs.Passes.{lanes, numbers, fresh, joined_with, Knows, IsApart}
 use Rattle.pq_model.proofs.Fronts.{Witnesses-fresh}
 use Rattle.bb_problem.specs.Meaning.{Meaning}
+use Rattle.bb_shared.specs.declared.store.stored.Draw.{Draw}
 use Rattle.bb_shared.specs.declared.store.stored.Stored.{Stored}
 use Rattle.bb_shared.specs.declared.control.told.Told.{Told}
 use Rattle.bb_shared.specs.declared.control.stop.Stop.{Stop}
@@ -24,11 +25,13 @@ use Rattle.bb_pool.specs.Working.{HasMade, IsRooted}
 use Rattle.bb_pool.specs.Together.{Doing, AtWork, IsCounted, Follows, GoesOn, IsCause, IsNumbered, IsNew, HasBegun, IsTogether, doing, IsOneOf}
 use Rattle.bb_pool.specs.declared.workers.shared.Worker.{Worker}
 use Rattle.bb_pool.specs.declared.workers.shared.Shared.{Shared}
+use Rattle.bb_pool.specs.Origins.{IsTraced, IsTracedFrom}
 use Rattle.bb_pool.specs.Turns.{IsHalt, IsPut}
 use Rattle.bb_pool.specs.Runs.{HasRun, HasStopped, IsStill, IsJoinedOf}
 use Rattle.bb_pool.proofs.Members.{none_in_empty, Contains-here, Contains-cases, Contains-left, Contains-right, Contains-either}
 use Rattle.bb_pool.proofs.Several.Turning.{rooted_more, call_made, joined_grows}
 use Rattle.bb_pool.proofs.Several.Working.{cut_lowered, same_cut, work_drew, root_put, new_working, workers_joined}
+use Rattle.bb_pool.proofs.Several.Origins.{traced_new, traced_joined}
 use Rattle.bb_pool.proofs.Several.Counting.{reached, goes_further, inserts_joined}
 
 module _ {N L : Type 0} where
@@ -117,20 +120,21 @@ module _ {N L : Type 0} where
   }
 
   -- a run has ended, without a stop
-  pub run_ended : {m : Meaning N L} {nodes seats capacity idle from to : ℕ} {v w : Doing N L} → v.told.stops ≡ [] → HasRun m nodes (idle_calls + 1) v w → Knows seats capacity w.known → IsTogether m nodes seats capacity idle from to v → IsTogether m nodes seats capacity (idle_calls + 1) from to w
-  run_ended {m} {nodes} {from} {to} {v} {w} none r knows t = let f = r.follows in record {
+  pub run_ended : {m : Meaning N L} {nodes seats capacity idle from to : ℕ} {v w : Doing N L} → v.told.stops ≡ [] → HasRun m nodes (idle_calls + 1) v w → Knows seats capacity w.known → IsTracedFrom m from w.stored → IsTogether m nodes seats capacity idle from to v → IsTogether m nodes seats capacity (idle_calls + 1) from to w
+  run_ended {m} {nodes} {from} {to} {v} {w} none r knows traced t = let f = r.follows in record {
     numbered = numbered_more f t.numbered;
     counted = r.counted;
     causes = λ stop there. absurd (none_in_empty stop (subst (λ (l : List Stop). Contains l stop) (f.stops ∙ none) there));
     working = λ _. r.working;
     knows = knows;
     rooted = λ first _. rooted_more m v.known w.known v.stored.puts w.stored.puts f.calls f.puts (t.rooted first none);
+    traced = traced;
   }
 
   -- a run has ended, and the stop is set
   pub run_stopped : {m : Meaning N L} {nodes seats capacity from to : ℕ} {v w x : Doing N L} {stop : Stop} → v.told.stops ≡ [] → HasStopped nodes v w stop → IsStopSet w.told stop x.told → x.known ≡ w.known → x.stored ≡ w.stored → x.made ≡ w.made → Knows seats capacity x.known
-      → IsNumbered seats from to v → IsTogether m nodes seats capacity (idle_calls + 1) from to x
-  run_stopped {m} {nodes} {v} {w} {x} {stop} none r set known stored made knows t = let f = r.follows in
+      → IsTracedFrom m from w.stored → IsNumbered seats from to v → IsTogether m nodes seats capacity (idle_calls + 1) from to x
+  run_stopped {m} {nodes} {v} {w} {x} {stop} none r set known stored made knows traced t = let f = r.follows in
       let listed : x.told.stops ≡ w.told.stops ++ stop ∷ [] = ap (λ (z : Told). z.stops) set.is in
       let alone : x.told.stops ≡ stop ∷ [] = listed ∙ ap (λ (l : List Stop). l ++ stop ∷ []) (f.stops ∙ none) in record {
         numbered = record {
@@ -149,30 +153,41 @@ module _ {N L : Type 0} where
           turns = let i = c.turns in let a = ap (λ (z : Told). z.opened) set.is in let b = ap (λ (z : Told). z.closed) set.is in omega arith;
         };
         causes = λ y there. elim (Contains-cases stop y [] (subst (λ (l : List Stop). Contains l y) alone there)) [
-          | inl same ↦ subst (λ (z : Stop). IsCause nodes x.known z) same (subst (λ (k : Known). IsCause nodes k stop) (sym known) r.cause)
+          | inl same ↦ subst (λ (z : Stop). IsCause nodes x.known x.stored.draws z) same (subst (λ (k : Known). IsCause nodes k x.stored.draws stop) (sym known) (subst (λ (s : Stored N). IsCause nodes w.known s.draws stop) (sym stored) r.cause))
           | inr nil ↦ absurd (none_in_empty y nil)
         ];
         working = λ nil. absurd (let e : stop ∷ [] ≡ [] = sym alone ∙ nil in cc);
         knows = knows;
         rooted = λ _ nil. absurd (let e : stop ∷ [] ≡ [] = sym alone ∙ nil in cc);
+        traced = (traced.0, traced.1, subst (λ (s : Stored N). IsTraced m traced.0 [] s) (sym stored) traced.2);
       }
 
-  -- a worker that has begun, and has put the root if it is the first
-  pub begun_together : {m : Meaning N L} {nodes seats capacity n : ℕ} {w : Doing N L} → (n ≡ 1 → IsRooted m w.known w.stored.puts) → HasBegun m nodes seats capacity n w → IsTogether m nodes seats capacity idle_calls n n w
-  begun_together rooted b = record {
+  -- a worker that has begun, and is not the first
+  pub begun_together : {m : Meaning N L} {nodes seats capacity n : ℕ} {w : Doing N L} → n ≢ 1 → HasBegun m nodes seats capacity n w → IsTogether m nodes seats capacity idle_calls n n w
+  begun_together other b = record {
     numbered = b.numbered;
     counted = b.counted;
     causes = λ stop there. absurd (none_in_empty stop (subst (λ (l : List Stop). Contains l stop) b.none there));
     working = λ _. b.working;
     knows = b.knows;
-    rooted = λ first _. rooted first;
+    rooted = λ first _. absurd (other first);
+    traced = (None, λ _. refl, b.traced);
   }
 
-  pub begun_more : {m : Meaning N L} {nodes seats capacity n : ℕ} {v w : Doing N L} → HasRun m nodes idle_calls v w → Knows seats capacity w.known → HasBegun m nodes seats capacity n v → HasBegun m nodes seats capacity n w
-  begun_more r knows b = record { numbered = numbered_more r.follows b.numbered; counted = r.counted; none = r.follows.stops ∙ b.none; working = r.working; knows = knows }
+  -- the first, which has put the root
+  pub root_together : {m : Meaning N L} {nodes seats capacity : ℕ} {v w : Doing N L} → HasRun m nodes idle_calls v w → Knows seats capacity w.known → IsRooted m w.known w.stored.puts → IsTracedFrom m 1 w.stored → HasBegun m nodes seats capacity 1 v → IsTogether m nodes seats capacity idle_calls 1 1 w
+  root_together r knows rooted traced b = record {
+    numbered = numbered_more r.follows b.numbered;
+    counted = r.counted;
+    causes = λ stop there. absurd (none_in_empty stop (subst (λ (l : List Stop). Contains l stop) (r.follows.stops ∙ b.none) there));
+    working = λ _. r.working;
+    knows = knows;
+    rooted = λ _ _. rooted;
+    traced = traced;
+  }
 
   pub together_more : {m : Meaning N L} {nodes seats capacity idle more from to : ℕ} {w : Doing N L} → idle ≤ more → IsTogether m nodes seats capacity idle from to w → IsTogether m nodes seats capacity more from to w
-  together_more le t = record { numbered = t.numbered; counted = counted_more le t.counted; causes = t.causes; working = t.working; knows = t.knows; rooted = t.rooted }
+  together_more le t = record { numbered = t.numbered; counted = counted_more le t.counted; causes = t.causes; working = t.working; knows = t.knows; rooted = t.rooted; traced = t.traced }
 
 -- the stop was read
 pub stop_read_together : {N L : Type 0} {m : Meaning N L} {nodes seats capacity idle from to : ℕ} {w x : Doing N L} {r : Option Stop} → IsStopRead w.told r x.told → x.known ≡ w.known → x.stored ≡ w.stored → x.found ≡ w.found → x.made ≡ w.made
@@ -193,6 +208,7 @@ stop_read_together {N} {L} {m} {nodes} {seats} {capacity} {idle} {from} {to} {w}
       working = λ nil. cut_lowered m w.known w.stored w.told x.told w.found (ap (λ (z : Told). z.own) is.is) (same_cut w.told x.told (ap (λ (z : Told). z.own) is.is) (ap (λ (z : Told). z.read) is.is)) (t.working (sym same_stops ∙ nil));
       knows = t.knows;
       rooted = λ first nil. t.rooted first (sym same_stops ∙ nil);
+      traced = t.traced;
     })
 
 -- what the numbers of two passes are that are joined
@@ -203,10 +219,10 @@ numbers_joined k other = mapped (lanes k) (lanes other)
     mapped [] ys = refl
     mapped (x ∷ xs) ys = ap (λ (l : List ℕ). x.number ∷ l) (mapped xs ys)
 
-cause_more : (nodes : ℕ) (k now : Known) (stop : Stop) → ((l : Lane) → Contains (lanes k) l → Contains (lanes now) l) → IsCause nodes k stop → IsCause nodes now stop
-cause_more nodes k now (stops.NodeLimit asked) within c = c
-cause_more nodes k now (stops.Full place) within (e, l, has, there) = (e, l, within l has, there)
-cause_more nodes k now stops.NoMemory within c = tt
+cause_more : (nodes : ℕ) (k now : Known) (draws more : List Draw) (stop : Stop) → ((l : Lane) → Contains (lanes k) l → Contains (lanes now) l) → ((d : Draw) → Contains draws d → Contains more d) → IsCause nodes k draws stop → IsCause nodes now more stop
+cause_more nodes k now draws more (stops.NodeLimit asked) within drawn (over, d, has, low, is) = (over, d, drawn d has, low, is)
+cause_more nodes k now draws more (stops.Full place) within drawn (e, l, has, there) = (e, l, within l has, there)
+cause_more nodes k now draws more stops.NoMemory within drawn c = tt
 
 none_left : {X : Type 0} (xs ys : List X) → xs ++ ys ≡ [] → (xs ≡ []) × (ys ≡ [])
 none_left [] ys is = (refl, is)
@@ -217,9 +233,9 @@ are_apart {to} {next} {v} {o} lt a b = All-weaker (Contains (numbers v.known)) (
     (λ n here there. let low = (a.only n here).1 in let high = (b.only n there).0 in omega arith) (numbers v.known) (All-contains_itself (numbers v.known))
 
 -- the workers of the numbers after these are joined into them
-pub together_joined : {N L : Type 0} {m : Meaning N L} {nodes seats capacity idle from to next last : ℕ} {v o w : Doing N L} → next ≡ to + 1 → 1 ≤ from → from ≤ next → IsJoinedOf nodes seats capacity v o w
+pub together_joined : {N L : Type 0} {m : Meaning N L} {nodes seats capacity idle from to next last : ℕ} {v o w : Doing N L} → next ≡ to + 1 → 1 ≤ from → from ≤ to → IsJoinedOf nodes seats capacity v o w
     → IsTogether m nodes seats capacity idle from to v → IsTogether m nodes seats capacity idle next last o → IsTogether m nodes seats capacity idle from last w
-together_joined {m} {nodes} {from} {to} {last} {v} {o} {w} after some up j a b =
+together_joined {N} {L} {m} {nodes} {seats} {capacity} {idle} {from} {to} {next} {last} {v} {o} {w} after some up j a b =
     let names : numbers w.known ≡ numbers v.known ++ numbers o.known = ap numbers j.known ∙ numbers_joined v.known o.known in
     let stored : w.stored ≡ stores_joined v.stored o.stored = j.stored in
     let told : w.told ≡ controls_joined v.told o.told = j.told in
@@ -248,16 +264,18 @@ together_joined {m} {nodes} {from} {to} {last} {v} {o} {w} after some up j a b =
             let q = length-append v.stored.puts o.stored.puts in omega arith;
         turns = let i = c.turns in let k = d.turns in let x = ap (λ (z : Told). z.opened) told in let y = ap (λ (z : Told). z.closed) told in omega arith;
       };
-      causes = λ stop there. subst (λ (k : Known). IsCause nodes k stop) (sym j.known) (elim (Contains-either stop v.told.stops o.told.stops (subst (λ (l : List Stop). Contains l stop) stopped there)) [
-        | inl mine ↦ cause_more nodes v.known (joined_with v.known o.known) stop (λ l has. Contains-left l (lanes v.known) (lanes o.known) has) (a.causes stop mine)
-        | inr theirs ↦ cause_more nodes o.known (joined_with v.known o.known) stop (λ l has. Contains-right l (lanes v.known) (lanes o.known) has) (b.causes stop theirs)
-      ]);
+      causes = λ stop there. subst (λ (k : Known). IsCause nodes k w.stored.draws stop) (sym j.known) (subst (λ (s : Stored N). IsCause nodes (joined_with v.known o.known) s.draws stop) (sym stored) (elim (Contains-either stop v.told.stops o.told.stops (subst (λ (l : List Stop). Contains l stop) stopped there)) [
+        | inl mine ↦ cause_more nodes v.known (joined_with v.known o.known) v.stored.draws (v.stored.draws ++ o.stored.draws) stop (λ l has. Contains-left l (lanes v.known) (lanes o.known) has) (λ d has. Contains-left d v.stored.draws o.stored.draws has) (a.causes stop mine)
+        | inr theirs ↦ cause_more nodes o.known (joined_with v.known o.known) o.stored.draws (v.stored.draws ++ o.stored.draws) stop (λ l has. Contains-right l (lanes v.known) (lanes o.known) has) (λ d has. Contains-right d v.stored.draws o.stored.draws has) (b.causes stop theirs)
+      ]));
       working = λ nil. let both = none_left v.told.stops o.told.stops (sym stopped ∙ nil) in
           reached (AtWork m) j.known stored told j.found j.made (workers_joined m v.known o.known v.stored o.stored v.told o.told v.found o.found (a.working both.0) (b.working both.1));
       knows = j.knows;
       rooted = λ first nil. let both = none_left v.told.stops o.told.stops (sym stopped ∙ nil) in
           subst (λ (l : _). IsRooted m w.known l) (sym (ap (λ (s : _). s.puts) stored)) (subst (λ (k : Known). IsRooted m k (v.stored.puts ++ o.stored.puts)) (sym j.known)
           (rooted_more m v.known (joined_with v.known o.known) v.stored.puts (v.stored.puts ++ o.stored.puts) (joined_grows v.known o.known) (λ p. Contains-left p v.stored.puts o.stored.puts) (a.rooted first both.0)));
+      traced = let x = a.traced in let y = b.traced in let none : y.0 ≡ None = y.1 (λ (one : next ≡ 1). omega arith) in
+          (x.0, x.1, subst (λ (s : Stored N). IsTraced m x.0 [] s) (sym stored) (traced_joined x.2 (subst (λ (r : Option ℕ). IsTraced m r [] o.stored) none y.2)));
     }
 
 none_below : (x : ℕ) → ◌≡◌ {A = ℕ} 0 (if nat_lt x 0 then 1 else 0)
@@ -299,6 +317,7 @@ new_together m nodes seats capacity n v new = reached (HasBegun m nodes seats ca
   knows = ([], Witnesses-fresh seats capacity n);
   none = refl;
   working = new_working m n (new_stored seats) (new_told seats) refl refl refl refl;
+  traced = traced_new seats;
 })
 
 -- the root was put, under a number that was drawn

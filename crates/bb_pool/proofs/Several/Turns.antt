@@ -1,6 +1,6 @@
 -- How a turn ends: with the last call of all, or with children that are put.
 use Rattle.std.proofs.Common.{◌≡◌, ℕ, ◌+◌, ◌<◌, ◌≤◌, true, false, List, [], ◌∷◌, ◌++◌, length, drop, length-drop, Option, refl, sym, ap, ◌∙◌, subst, inl, inr, arith}
-use Rattle.std.specs.Prelude.{Contains, IsTrue, Result, Ok, Err, IfOk, IfErr}
+use Rattle.std.specs.Prelude.{Contains, Result, Ok, Err, IfOk, IfErr}
 use Rattle.pq_words.specs.declared.entries.Entry.{Entry}
 use Rattle.pq_model.specs.declared.marks.Act.TheVariants.{Insert, RemoveBelow}
 use Rattle.pq_model.specs.declared.marks.Reply.{Reply}
@@ -15,7 +15,7 @@ use Rattle.bb_shared.specs.declared.store.stored.Draw.{Draw}
 use Rattle.bb_shared.specs.declared.store.stored.Stored.{Stored}
 use Rattle.bb_shared.specs.declared.control.told.Told.{Told}
 use Rattle.bb_shared.specs.declared.control.stop.Stop.{Stop}
-use Rattle.bb_shared.specs.declared.control.stop.Stop.TheVariants.{Full}
+use Rattle.bb_shared.specs.declared.control.stop.Stop.TheVariants.{Full, NodeLimit}
 use Rattle.bb_shared.specs.Stores.{numbered, draw_of, with_draw, with_take, IsFree, KnowsStore}
 use Rattle.bb_shared.specs.Controls.{IsRead, IsClosed, with_opened, with_closed}
 use Rattle.bb_pool.specs.declared.child.Child.{Child}
@@ -24,11 +24,10 @@ use Rattle.bb_pool.specs.Children.{AreBounds, better_keys}
 use Rattle.bb_pool.specs.Underway.{cost_so_far}
 use Rattle.bb_pool.specs.LastCalls.{IsWhole, IsNoneBelow, EndsBelow}
 use Rattle.bb_pool.specs.Working.{Waiting, kept_of, IsHolding, IsInTurn}
-use Rattle.bb_pool.specs.Together.{Doing, AtWork, CanGoOn, GoesOn, IsCause}
+use Rattle.bb_pool.specs.Together.{Doing, AtWork, GoesOn, IsCause}
 use Rattle.bb_pool.specs.Turns.{IsHalt, HoldsNode, HasExpanded, HasRead, EndsIfWhole, WaitsFrom, AreFree, IsPut}
 use Rattle.bb_pool.proofs.Members.{none_in_empty, Contains-here, Contains-cases, Contains-right, Contains-either}
 use Rattle.bb_pool.proofs.Bounds.{bounds_length}
-use Rattle.bb_pool.proofs.Several.Lesser.{lesser_first}
 use Rattle.bb_pool.proofs.Several.Expanded.{waiting, kept_by, kept_length}
 use Rattle.bb_pool.proofs.Several.Working.{read_low, read_own, cut_lowered, held_lowered, call_more, node_taken, node_dropped, branch_waits, drew, put_first, turn_ended}
 use Rattle.bb_pool.proofs.Several.Counting.{reached, same_read, goes_told, goes_drawn, goes_idle, goes_taken, goes_further}
@@ -76,10 +75,15 @@ node_got {N} {L} m nodes v w place limit e child r known stored read found made 
 )
 
 -- an insert that was answered Full is the cause of a stop
-pub full_cause : (nodes : ℕ) (k now : Known) (place : ℕ) (e : Entry) → now ≡ with_call k place (Insert e) replies.Full → IsCause nodes now (Full place)
-full_cause nodes k now place e is = let own = lane k.number (k.calls ++ call place (Insert e) replies.Full ∷ []) in
-    subst (λ (z : Known). IsCause nodes z (Full place)) (sym is)
+pub full_cause : (nodes : ℕ) (k now : Known) (draws : List Draw) (place : ℕ) (e : Entry) → now ≡ with_call k place (Insert e) replies.Full → IsCause nodes now draws (Full place)
+full_cause nodes k now draws place e is = let own = lane k.number (k.calls ++ call place (Insert e) replies.Full ∷ []) in
+    subst (λ (z : Known). IsCause nodes z draws (Full place)) (sym is)
     (e, own, Contains-here own k.joined, Contains-right (call place (Insert e) replies.Full) k.calls (call place (Insert e) replies.Full ∷ []) (Contains-here (call place (Insert e) replies.Full) []))
+
+-- a draw that was answered Over is one
+pub over_cause : {N : Type 0} (nodes : ℕ) (k : Known) (before now : Stored N) (o count asked : ℕ) → now ≡ with_draw before (draw_of o count false) → 1 ≤ count → nodes < asked → o + count ≡ asked → IsCause nodes k now.draws (NodeLimit asked)
+over_cause {N} nodes k before now o count asked is some over all = let d : Draw = draw_of o count false in
+    subst (λ (s : Stored N). IsCause nodes k s.draws (NodeLimit asked)) (sym is) (over, d, Contains-right d before.draws (d ∷ []) (Contains-here d []), omega arith, all)
 
 -- Of the children of a branch these are left to go through, with these bounds, and the first that is kept will have the
 -- number.
@@ -157,10 +161,6 @@ pub putting_over : {N L : Type 0} {m : Meaning N L} {nodes : ℕ} {best : Option
 putting_over {N} {m} {best} {w} {rest} {keys} {number} none p = let waits = subst (λ (l : List N). WaitsFrom m w (kept_of best l keys) number) (empty_of rest none) p.waits in
     turn_ended m w.known w.stored w.told w.found waits.entry waits.node waits.turn
 
--- after a read of the best cost
-pub has_read : {N L : Type 0} (w x : Doing N L) (r : Option ℕ) → IsRead w.told r x.told → HasRead x r
-has_read w x r is = (ap (λ (z : Told). z.read) is.is, λ v better. subst (λ (o : Option ℕ). IsTrue (is_better v o)) (sym (read_own w.told x.told r is)) (lesser_first w.told.own w.told.read v (is.low v better)))
-
 pub goes_read : {N L : Type 0} (nodes : ℕ) (w x : Doing N L) (r : Option ℕ) → IsRead w.told r x.told → x.known ≡ w.known → x.stored ≡ w.stored → x.found ≡ w.found → x.made ≡ w.made → GoesOn nodes 0 w x
 goes_read {N} {L} nodes w x r is known stored found made = reached (λ (y : Doing N L). GoesOn nodes 0 w y) known stored refl found made (goes_told nodes w.known w.stored w.told x.told w.found w.found w.made (same_read w.told x.told r is))
 
@@ -213,14 +213,6 @@ goes_drew {N} {L} nodes w x d known stored told found made knows = reached (λ (
 pub goes_opened : {N L : Type 0} (nodes : ℕ) (v u : Doing N L) → u.known ≡ v.known → u.stored ≡ v.stored → u.told ≡ with_opened v.told 1 → u.found ≡ v.found → u.made ≡ v.made → GoesOn nodes 0 v u
 goes_opened {N} {L} nodes v u known stored told found made = reached (λ (y : Doing N L). GoesOn nodes 0 v y) known stored told found made
     (goes_told nodes v.known v.stored v.told (with_opened v.told 1) v.found v.found v.made (record { seats = refl; parts = refl; stops = refl; turns = omega arith }))
-
-pub work_opened : {N L : Type 0} {m : Meaning N L} (v u : Doing N L) → u.known ≡ v.known → u.stored ≡ v.stored → u.told ≡ with_opened v.told 1 → u.found ≡ v.found → AtWork m v → AtWork m u
-work_opened {N} {L} {m} v u known stored told found work = reached (AtWork m) {made = u.made} known stored told found refl
-    (cut_lowered m v.known v.stored v.told (with_opened v.told 1) v.found refl (λ x better. better) work)
-
--- more turns are begun than ended
-pub may_close : {N L : Type 0} {nodes more : ℕ} (v u w : Doing N L) → u.told ≡ with_opened v.told 1 → CanGoOn nodes v → GoesOn nodes more u w → w.told.closed < w.told.opened
-may_close v u w told (idle, le, c) on = let a = c.turns in let b = on.follows.turns in let x = ap (λ (z : Told). z.opened) told in let y = ap (λ (z : Told). z.closed) told in omega arith
 
 -- and ended
 pub goes_closed : {N L : Type 0} {nodes more : ℕ} (v u w x : Doing N L) (left : ℕ) → u.known ≡ v.known → u.stored ≡ v.stored → u.told ≡ with_opened v.told 1 → u.found ≡ v.found → u.made ≡ v.made → GoesOn nodes more u w

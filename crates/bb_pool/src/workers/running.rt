@@ -1,9 +1,10 @@
 //! A worker from its first turn to its last, and all workers on threads.
 
-ghost use Rattle.std.specs.Prelude.{◌≡◌, ℕ, ◌+◌, ◌<◌, ◌≤◌, [], length, IfOk, IfErr};
+ghost use Rattle.std.specs.Prelude.{◌≡◌, ℕ, ◌+◌, ◌<◌, ◌≤◌, [], length, Option, IfOk, IfErr};
 ghost use Rattle.pq_model.specs.Passes.{Knows};
 ghost use Rattle.pq_api.specs.Answers.{EachAt};
 ghost use Rattle.bb_pool.specs.Limits.{idle_calls};
+ghost use Rattle.bb_pool.specs.Origins.{IsTraced};
 ghost use Rattle.bb_pool.specs.Together.{doing, IsOneOf, AtWork, IsCounted, IsTogether};
 ghost use Rattle.bb_pool.specs.Runs.{HasRun, HasStopped, IsStill};
 
@@ -97,6 +98,8 @@ fn go_on<R: Wait + Sync, Q: BoundedQueue, P: Problem, G: Gate>(
     ensures ended { IfOk result (λ _. HasRun (P.meaning problem.now) shared.now.nodes (idle_calls + 1)
         (doing Q.known worker.old) (doing Q.known worker.new)) }
     ensures stopped { IfErr result (HasStopped shared.now.nodes (doing Q.known worker.old) (doing Q.known worker.new)) }
+    ensures traced { (root : Option ℕ) → IsTraced (P.meaning problem.now) root [] worker.old.seat.kept
+        → IsTraced (P.meaning problem.now) root [] worker.new.seat.kept }
 {
     let mut was_idle = false;
     for _ in rt.forever() {

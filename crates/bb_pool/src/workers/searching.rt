@@ -4,7 +4,7 @@ ghost use Rattle.std.specs.Prelude.{◌≡◌, ◌+◌, ◌≤◌, ◌<◌, [], 
 ghost use Rattle.pq_model.specs.Passes.{fresh};
 ghost use Rattle.pq_api.specs.Answers.{EachAt};
 ghost use Rattle.bb_pool.specs.Limits.{max_nodes, idle_calls};
-ghost use Rattle.bb_pool.specs.Outcomes.{IsOutcome};
+ghost use Rattle.bb_pool.specs.Outcomes.{IsOutcome, IfNodeLimit};
 ghost use Rattle.bb_pool.specs.Together.{doing, IsOneOf, IsNew, IsTogether};
 ghost use Rattle.bb_pool.specs.SearchOutcomes.{IsSearchOutcome};
 
@@ -23,35 +23,36 @@ use std::thread::Threads;
 
 /// Searches for a feasible plan of least cost, the node of least bound first, by a worker for each pass of a queue.
 ///
-/// The passes have to be all passes of the queue, in the order of their numbers, and none may have made a call. `nodes`,
-/// the node limit, is 1 to `MAX_NODES`.
+/// The passes have to be all passes of the queue, in the order of their numbers, and none may have made a call.
+/// `nodes`, the node limit, is 1 to `MAX_NODES`.
 ///
-/// The workers share the queue, a store of the open nodes by number, the best cost so far and the first stop. The first
-/// of them puts the root. In a turn a worker removes the least entry whose key is below the best cost. The key is a
-/// node's bound, the id its number, and the worker takes the node. Where the key is below the best cost still, the node
-/// is expanded: a leaf's plan is kept where it is cheaper than the best, and of a branch the children whose bounds are
-/// below the best cost get the next numbers, and are stored and inserted in order. A worker that finds no such entry
-/// ends where a stop is set, or where no turn was open now and after its turn before, or once its pass has made 2^24
-/// calls. Then all are joined into one, which goes on alone until no such entry is left.
+/// The workers share the queue, a store of the open nodes by number, the best cost so far and the first stop. The
+/// first of them puts the root. In a turn a worker removes the least entry whose key is below the best cost. The key
+/// is a node's bound, the id its number, and the worker takes the node. Where the key is below the best cost still,
+/// the node is expanded: a leaf's plan is kept where it is cheaper than the best, and of a branch the children whose
+/// bounds are below the best cost get the next numbers, and are stored and inserted in order. A worker that finds no
+/// such entry ends where a stop is set, or where no turn was open now and after its turn before, or once its pass has
+/// made 2^24 calls. Then all are joined into one, which goes on alone until no such entry is left.
 ///
 /// `Best` gives a feasible plan with its cost, and no feasible plan costs less. `NodeLimit` comes where a branch's
-/// children would pass the limit, before one of them is put. `Full` comes where an insert was answered so, at its place;
-/// the capacity is then below `nodes` and the number of passes together. `NoMemory` comes where there was none for the
-/// root, the store, the workers, a node's expansion or the bounds of its children. Of several stops the first is the
-/// answer. Queue, passes and the nodes still open are dropped.
+/// children would pass the limit, before one of them is put; the limit is then below the size of the tree. `Full`
+/// comes where an insert was answered so, at its place; the capacity is then below `nodes` and the number of passes
+/// together. `NoMemory` comes where there was none for the root, the store, the workers, a node's expansion or the
+/// bounds of its children. Of several stops the first is the answer. Queue, passes and the nodes still open are
+/// dropped.
 ///
 /// With one pass it takes the turns of `search_plain` and ends as that does, which is `one`.
 ///
-/// Each worker has a thread of its own; where a thread cannot be had, its work is done by another. A node costs one
-/// removal, one insert, one addition for all numbers of its children, two exchanges on its slot, a bound and at most one
-/// expansion. The store, the control words and the workers take their memory before the root is inserted, in time linear
-/// in `nodes`; after that only `expand` takes memory, and each worker for the bounds of one branch. The gate is told each
-/// node that was taken, at `Point::WorkerNode`. Queue and gate may wait, and so may this call: what is promised holds if
-/// it returns.
+/// The workers run on threads, one of them on the caller's; where a thread cannot be had, another runs its worker
+/// too. A node costs one removal, one insert, one addition for all numbers of its children, two exchanges on its
+/// slot, a bound and at most one expansion. The store, the control words and the workers take their memory before the
+/// root is inserted, in time linear in `nodes`; after that only `expand` takes memory, and each worker for the bounds
+/// of one branch. The gate is told each node that was taken, at `Point::WorkerNode`. Queue and gate may wait, and so
+/// may this call: what is promised holds if it returns.
 ///
-/// After A. H. Land and A. G. Doig, "An Automatic Method of Solving Discrete Programming Problems" (Econometrica, 1960),
-/// and for several workers on one queue B. Gendron and T. G. Crainic, "Parallel Branch-and-Bound Algorithms: Survey and
-/// Synthesis" (Operations Research, 1994).
+/// After A. H. Land and A. G. Doig, "An Automatic Method of Solving Discrete Programming Problems" (Econometrica,
+/// 1960), and for several workers on one queue B. Gendron and T. G. Crainic, "Parallel Branch-and-Bound Algorithms:
+/// Survey and Synthesis" (Operations Research, 1994).
 pub fn search<R: Threads + Wait + Sync, Q: BoundedQueue, P: Problem, G: Gate>(
     rt: &R,
     alloc: Global,
@@ -66,6 +67,8 @@ pub fn search<R: Threads + Wait + Sync, Q: BoundedQueue, P: Problem, G: Gate>(
     requires nodes { (1 ≤ nodes) × (nodes ≤ max_nodes) }
     ensures outcome { IsSearchOutcome (P.meaning problem.now) nodes (Q.capacity_of queue) (Q.seats_of queue) result }
     ensures one { Q.seats_of queue ≡ 1 → IsOutcome (P.meaning problem.now) nodes (Q.capacity_of queue) result }
+    // A node limit of the tree's size is never too low.
+    ensures below_size { IfNodeLimit result (λ asked limit. limit < (P.meaning problem.now).tree_size) }
 {
     if passes.len() == 1 {
         let mut passes = passes;

@@ -1,16 +1,20 @@
 //! One turn of a worker: a node is taken and expanded, and its children are put.
 
-ghost use Rattle.std.specs.Prelude.{◌≡◌, ℕ, ◌+◌, ◌<◌, ◌≤◌, length, All, IfOk, IfErr, IfSome, IfNone};
+ghost use Rattle.std.specs.Prelude.{◌≡◌, ℕ, ◌+◌, ◌<◌, ◌≤◌, List, [], ◌∷◌, length, All};
+ghost use Rattle.std.specs.Prelude.{Option, IfOk, IfErr, IfSome, IfNone};
 ghost use Rattle.pq_words.specs.Limits.{key_limit};
 ghost use Rattle.pq_model.specs.Passes.{Knows};
 ghost use Rattle.bb_problem.specs.Limits.{max_children};
 ghost use Rattle.bb_problem.specs.declared.step.Step.TheVariants as steps;
+ghost use Rattle.bb_problem.specs.Expanding.{IsExpanded};
 ghost use Rattle.bb_shared.specs.declared.control.stop.Stop.TheVariants as stops;
-ghost use Rattle.bb_shared.specs.Stores.{IsFree};
+ghost use Rattle.bb_shared.specs.declared.store.stored.Numbered.{Numbered};
+ghost use Rattle.bb_shared.specs.Stores.{numbered, with_put, with_take, IsFree};
 ghost use Rattle.bb_shared.specs.Controls.{IsTellable};
 ghost use Rattle.bb_pool.specs.Costs.{limit_of};
 ghost use Rattle.bb_pool.specs.Children.{AreBounds};
 ghost use Rattle.bb_pool.specs.Working.{kept_of};
+ghost use Rattle.bb_pool.specs.Origins.{Origin, IsTraced, HasOrigin, AreLeftOf};
 ghost use Rattle.bb_pool.specs.Together.{doing, IsOneOf, AtWork, CanGoOn, GoesOn};
 ghost use Rattle.bb_pool.specs.Turns.{HoldsNode, HasExpanded, HasRead, WaitsFrom, AreFree, IsPut, EndsIfWhole};
 ghost use Rattle.bb_pool.specs.Turns.{IsTurn, IsHalt};
@@ -54,6 +58,8 @@ pub(crate) fn take_turn<R: Wait + Sync, Q: BoundedQueue, P: Problem, G: Gate>(
     ensures turn { IfOk result (IsTurn (P.meaning problem.now) shared.now.nodes (Q.seats_of shared.now.queue)
         (Q.capacity_of shared.now.queue) (doing Q.known worker.old) (doing Q.known worker.new)) }
     ensures halt { IfErr result (IsHalt shared.now.nodes (doing Q.known worker.old) (doing Q.known worker.new)) }
+    ensures traced { (root : Option ℕ) → IsTraced (P.meaning problem.now) root [] worker.old.seat.kept
+        → IsTraced (P.meaning problem.now) root [] worker.new.seat.kept }
 {
     shared.control.opened(&mut worker.control, 1);
     match take_node(rt, problem, shared, gate, worker) {
@@ -88,6 +94,9 @@ fn take_node<R: Wait + Sync, Q: BoundedQueue, P: Problem, G: Gate>(
     ensures none { IfNone result (GoesOn shared.now.nodes 1 (doing Q.known worker.old) (doing Q.known worker.new)
         × AtWork (P.meaning problem.now) (doing Q.known worker.new)
         × EndsIfWhole (Q.seats_of shared.now.queue) (Q.capacity_of shared.now.queue) (doing Q.known worker.new)) }
+    ensures took { IfSome result (λ child. (number : ℕ)
+        × (worker.new.seat.kept ≡ with_take worker.old.seat.kept (numbered number child.node))) }
+    ensures same { IfNone result (worker.new.seat.kept ≡ worker.old.seat.kept) }
 {
     let best = shared.control.best(&mut worker.control);
     worker.made += 1;
@@ -134,6 +143,9 @@ fn expand_node<R: Wait + Sync, Q: BoundedQueue, P: Problem>(
     ensures worked { IfOk result (λ _. GoesOn shared.now.nodes 0 (doing Q.known worker.old) (doing Q.known worker.new)
         × AtWork (P.meaning problem.now) (doing Q.known worker.new)) }
     ensures halt { IfErr result (IsHalt shared.now.nodes (doing Q.known worker.old) (doing Q.known worker.new)) }
+    ensures traced { (root : Option ℕ) (number : ℕ)
+        → IsTraced (P.meaning problem.now) root (numbered number child.node ∷ []) worker.old.seat.kept
+        → IsTraced (P.meaning problem.now) root [] worker.new.seat.kept }
 {
     let best = shared.control.best(&mut worker.control);
     if !is_below(child.key, best) {
@@ -163,6 +175,7 @@ fn keep_plan<Q: BoundedQueue, P: Problem>(
     requires leaf { HasExpanded (P.meaning problem.now) (doing Q.known worker.old) (steps.Leaf plan) }
     ensures own { IsOneOf Q.belongs shared.now worker.new }
     ensures pass { worker.new.pass ≡ worker.old.pass }
+    ensures seat { worker.new.seat ≡ worker.old.seat }
     ensures on { GoesOn shared.now.nodes 0 (doing Q.known worker.old) (doing Q.known worker.new) }
     ensures working { AtWork (P.meaning problem.now) (doing Q.known worker.new) }
 {
@@ -195,6 +208,11 @@ fn put_children<R: Wait + Sync, Q: BoundedQueue, P: Problem>(
     ensures worked { IfOk result (λ _. GoesOn shared.now.nodes 0 (doing Q.known worker.old) (doing Q.known worker.new)
         × AtWork (P.meaning problem.now) (doing Q.known worker.new)) }
     ensures halt { IfErr result (IsHalt shared.now.nodes (doing Q.known worker.old) (doing Q.known worker.new)) }
+    ensures traced { (root : Option ℕ) (parent : Numbered P.Node)
+        → ((name : List ℕ) → (P.meaning problem.now).stands parent.node name
+        → IsExpanded (P.meaning problem.now) name (steps.Branch children))
+        → IsTraced (P.meaning problem.now) root (parent ∷ []) worker.old.seat.kept
+        → IsTraced (P.meaning problem.now) root [] worker.new.seat.kept }
 {
     let Ok(kept) = bounds(problem, &children, best, &mut worker.keys) else {
         return Err(Stop::NoMemory);
@@ -235,6 +253,10 @@ fn put_kept<R: Wait + Sync, Q: BoundedQueue, P: Problem>(
     ensures worked { IfOk result (λ _. GoesOn shared.now.nodes 0 (doing Q.known worker.old) (doing Q.known worker.new)
         × AtWork (P.meaning problem.now) (doing Q.known worker.new)) }
     ensures halt { IfErr result (IsHalt shared.now.nodes (doing Q.known worker.old) (doing Q.known worker.new)) }
+    ensures traced { (root : Option ℕ) (o : Origin P.Node)
+        → HasOrigin (P.meaning problem.now) root o worker.old.seat.kept
+        → AreLeftOf (P.meaning problem.now) best o first children.items worker.old.keys.items
+        → IsTraced (P.meaning problem.now) root [] worker.new.seat.kept }
 {
     let mut number = first;
     let mut place = 0;
@@ -265,6 +287,7 @@ pub(crate) fn put_child<R: Wait + Sync, Q: BoundedQueue, N: Send + Drop, L: Drop
     ensures own { IsOneOf Q.belongs shared.now worker.new }
     ensures knows { Knows (Q.seats_of shared.now.queue) (Q.capacity_of shared.now.queue) (Q.known worker.new.pass) }
     ensures keys { worker.new.keys ≡ worker.old.keys }
+    ensures seat { worker.new.seat.kept ≡ with_put worker.old.seat.kept (numbered number child.node) }
     ensures put { IfOk result (λ _. GoesOn shared.now.nodes 0 (doing Q.known worker.old) (doing Q.known worker.new)
         × IsPut (doing Q.known worker.old) (doing Q.known worker.new) child number) }
     ensures halt { IfErr result (IsHalt shared.now.nodes (doing Q.known worker.old) (doing Q.known worker.new)) }

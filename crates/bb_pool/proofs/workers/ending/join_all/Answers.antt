@@ -42,7 +42,7 @@ loop-other-preserved g c = let sh = c.args.shared.now in let Q = g.Q.SharedQueue
         n + 0 + 1,
         omega arith,
         omega arith,
-        together_joined (omega arith) (omega arith) (omega arith) c.join.ensures.joined j.3 head.1,
+        together_joined (omega arith) (omega arith) j.1 c.join.ensures.joined j.3 head.1,
         λ k d lt. subst (λ i. W i (slice_index_or c.next.new.self.rest.items k d)) (let e : n + suc k + 1 ≡ n + 0 + 1 + k + 1 = omega arith in e) (ended (suc k) d (omega arith)),
       );
     }

@@ -10,7 +10,7 @@ returns-in_err-take_turn-clause-stopped g c = let why = halted (omega arith) c.l
 pub loop-preserved-in-Worked : goal.loop-preserved-in-Worked
 loop-preserved-in-Worked g c = let sh = c.args.shared.now in let q = g.Q.SharedQueue.known in
     let turn = subst (IsTurn (g.P.Problem.meaning c.args.problem.now) sh.nodes (g.Q.SharedQueue.seats_of sh.queue) (g.Q.SharedQueue.capacity_of sh.queue) (doing q c.loop.worker) (doing q c.take_turn.new.worker)) c.in-Worked.is c.in_ok-take_turn.ensures.turn in
-    record { own = c.take_turn.ensures.own; knows = c.take_turn.ensures.knows; run = turn_more c.loop.invariant.run turn.0 turn.1 }
+    record { own = c.take_turn.ensures.own; knows = c.take_turn.ensures.knows; run = turn_more c.loop.invariant.run turn.0 turn.1; traced = λ root t. c.take_turn.ensures.traced root (c.loop.invariant.traced root t) }
 
 pub returns-then-over-clause-ended : goal.returns-then-over-clause-ended
 returns-then-over-clause-ended g c = let sh = c.args.shared.now in let q = g.Q.SharedQueue.known in
@@ -24,4 +24,11 @@ loop-preserved g c = let sh = c.args.shared.now in let q = g.Q.SharedQueue.known
       own = (own.0, own.1, still.own ∙ own.2);
       knows = c.take_turn.ensures.knows;
       run = run_again c.if-worker-ge-IDLE_CALLS.false (still_run (idle_more c.loop.invariant.run turn.0 turn.1) still.still refl refl refl refl);
+      traced = λ root t. c.take_turn.ensures.traced root (c.loop.invariant.traced root t);
     }
+
+pub returns-in_err-take_turn-clause-traced : goal.returns-in_err-take_turn-clause-traced
+returns-in_err-take_turn-clause-traced g c = λ root t. c.take_turn.ensures.traced root (c.loop.invariant.traced root t)
+
+pub returns-then-over-clause-traced : goal.returns-then-over-clause-traced
+returns-then-over-clause-traced g c = λ root t. c.take_turn.ensures.traced root (c.loop.invariant.traced root t)

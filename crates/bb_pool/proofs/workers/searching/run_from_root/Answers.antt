@@ -18,7 +18,7 @@ returns-then-not-begin-clause-ended g c = let sh = c.args.shared.now in let Q = 
     let P : ℕ → W → Type 0 = λ k w. IsOneOf Q.belongs sh w × IsTogether m sh.nodes (Q.seats_of sh.queue) (Q.capacity_of sh.queue) (idle_calls + 1) (k + 1) (k + 1) (doing Q.known w) in
     let O : ℕ → W → Type 0 = λ k w. IsOneOf Q.belongs sh w × IsNew (Q.seats_of sh.queue) (k + 1) (doing Q.known w) in
     each_set_first P O c.args.workers.now c.begin.new.worker (c.begin.ensures.own, c.begin.ensures.together)
-    (λ k w new. (new.0, together_more (omega arith) (begun_together (λ (first : suc k + 1 ≡ 1). absurd (omega arith)) (new_together m sh.nodes (Q.seats_of sh.queue) (Q.capacity_of sh.queue) (suc k + 1) (doing Q.known w) new.1)))) c.requires.new
+    (λ k w new. (new.0, together_more (omega arith) (begun_together (λ (first : suc k + 1 ≡ 1). omega arith) (new_together m sh.nodes (Q.seats_of sh.queue) (Q.capacity_of sh.queue) (suc k + 1) (doing Q.known w) new.1)))) c.requires.new
 
 pub run_all-requires-clause-ready : goal.run_all-requires-clause-ready
 run_all-requires-clause-ready g c κs within = let sh = c.args.shared.now in let Q = g.Q.SharedQueue in let m = g.P.Problem.meaning c.args.problem.now in
@@ -27,4 +27,4 @@ run_all-requires-clause-ready g c κs within = let sh = c.args.shared.now in let
     let O : ℕ → W → Type 0 = λ k w. IsOneOf Q.belongs sh w × IsNew (Q.seats_of sh.queue) (k + 1) (doing Q.known w) in
     let yes : IsTrue c.begin.result = search rules in
     each_set_first P O c.args.workers.now c.begin.new.worker (c.begin.ensures.own, c.begin.ensures.none yes, c.begin.ensures.begun yes)
-    (λ k w new. let begun = new_together m sh.nodes (Q.seats_of sh.queue) (Q.capacity_of sh.queue) (suc k + 1) (doing Q.known w) new.1 in (new.0, begun.none, begun_together (λ (first : suc k + 1 ≡ 1). absurd (omega arith)) begun)) c.requires.new
+    (λ k w new. let begun = new_together m sh.nodes (Q.seats_of sh.queue) (Q.capacity_of sh.queue) (suc k + 1) (doing Q.known w) new.1 in (new.0, begun.none, begun_together (λ (first : suc k + 1 ≡ 1). omega arith) begun)) c.requires.new

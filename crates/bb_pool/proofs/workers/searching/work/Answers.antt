@@ -1,4 +1,4 @@
-use Rattle.std.proofs.Common.{rules, arith, ℕ, ◌≡◌, ◌+◌, ◌≤◌, ◌∙◌, length, drop, sym, ap, subst}
+use Rattle.std.proofs.Common.{rules, arith, ℕ, ◌≡◌, ◌+◌, length, drop, sym, ap, subst}
 use Rattle.pq_api.specs.Answers.{EachAt}
 use Rattle.bb_pool.specs.declared.workers.shared.Worker.{Worker}
 use Rattle.bb_pool.specs.Limits.{idle_calls}

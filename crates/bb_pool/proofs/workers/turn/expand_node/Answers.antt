@@ -1,7 +1,10 @@
-use Rattle.std.proofs.Common.{refl, sym, subst}
+use Rattle.std.proofs.Common.{[], refl, sym, ap, subst}
 use Rattle.bb_problem.specs.declared.step.Step.TheVariants as steps
 use Rattle.bb_problem.specs.Expanding.{IsExpanded}
+use Rattle.bb_shared.specs.Stores.{numbered}
+use Rattle.bb_pool.specs.Origins.{IsTraced}
 use Rattle.bb_pool.specs.Together.{doing}
+use Rattle.bb_pool.proofs.Several.Origins.{traced_left}
 use Rattle.bb_pool.proofs.Several.Counting.{goes_further, can_go_on}
 use Rattle.bb_pool.proofs.Several.Turns.{drops, expands, goes_read, after_ok, after_err, halt_more}
 use Rattle.bb_pool.proofs.workers.turn.expand_node.Goals as goal
@@ -35,3 +38,16 @@ returns-in-Ok-Branch-clause-worked g c = let on = goes_read c.args.shared.now.no
 pub returns-in-Ok-Branch-clause-halt : goal.returns-in-Ok-Branch-clause-halt
 returns-in-Ok-Branch-clause-halt g c = let on = goes_read c.args.shared.now.nodes (doing g.Q.SharedQueue.known c.args.worker.now) _ _ c.best-best.ensures.read refl refl refl refl in
     after_err (λ stop h. halt_more stop on h) c.put_children.result c.put_children.ensures.halt
+
+pub returns-then-not-is_below-clause-traced : goal.returns-then-not-is_below-clause-traced
+returns-then-not-is_below-clause-traced g c = λ root number t. traced_left t
+
+pub returns-in-Err-clause-traced : goal.returns-in-Err-clause-traced
+returns-in-Err-clause-traced g c = λ root number t. traced_left t
+
+pub returns-in-Ok-Leaf-clause-traced : goal.returns-in-Ok-Leaf-clause-traced
+returns-in-Ok-Leaf-clause-traced g c = λ root number t. subst (λ s. IsTraced (g.P.Problem.meaning c.args.problem.now) root [] s) (sym (ap (λ s. s.kept) c.keep_plan.ensures.seat)) (traced_left t)
+
+pub returns-in-Ok-Branch-clause-traced : goal.returns-in-Ok-Branch-clause-traced
+returns-in-Ok-Branch-clause-traced g c = let m = g.P.Problem.meaning c.args.problem.now in
+    λ root number t. c.put_children.ensures.traced root (numbered number c.args.child.node) (λ name st. subst (IsExpanded m name) c.in-Ok-Branch.field-0-is (c.in-Ok-Branch.ensures.expanded name st)) t

@@ -18,6 +18,6 @@ returns-in-Full-clause-halt g c = let sh = c.args.shared.now in
     let knows = subst (λ n. KnowsStore n c.put.new.seat.kept) sh.limit.0 c.put.ensures.knows in (
       moved (λ w. GoesOn sh.nodes 0 (doing g.Q.SharedQueue.known c.args.worker.now) w) c.in-Full.ensures.call.1 c.put.ensures.put refl
           (goes_put sh.nodes _ _ _ _ _ _ _ _ _ (subst (KnowsStore sh.nodes) c.put.ensures.put knows)),
-      subst (IsCause sh.nodes (g.Q.SharedQueue.known c.insert.new.pass)) (sym c.full_at.ensures.stop) (full_cause sh.nodes (g.Q.SharedQueue.known c.args.worker.now.pass) _ _ _ c.in-Full.ensures.call.1),
+      subst (IsCause sh.nodes (g.Q.SharedQueue.known c.insert.new.pass) c.put.new.seat.kept.draws) (sym c.full_at.ensures.stop) (full_cause sh.nodes (g.Q.SharedQueue.known c.args.worker.now.pass) _ c.put.new.seat.kept.draws _ _ c.in-Full.ensures.call.1),
       c.full_at.ensures.tellable,
     )

@@ -1,9 +1,12 @@
-use Rattle.std.proofs.Common.{rules, arith, ◌≡◌, ◌+◌, ◌<◌, ◌∷◌, ℕ, length, drop, refl, sym, ap, ◌∙◌, subst}
+use Rattle.std.proofs.Common.{rules, arith, ◌≡◌, ◌+◌, ◌<◌, [], ◌∷◌, ℕ, length, drop, refl, sym, ap, ◌∙◌, subst}
 use Rattle.std.specs.Prelude.{All}
 use Rattle.std.proofs.lemmas.List.Elements.{All-get_or}
 use Rattle.pq_words.specs.Limits.{key_limit}
+use Rattle.bb_shared.specs.Stores.{numbered}
+use Rattle.bb_pool.specs.Origins.{IsTraced, HasOrigin, AreLeftOf}
 use Rattle.bb_pool.specs.Together.{doing}
 use Rattle.bb_pool.proofs.OnePass.Putting.{first_key}
+use Rattle.bb_pool.proofs.Several.Origins.{left_less, left_child, left_more, origin_put}
 use Rattle.bb_pool.proofs.Several.Counting.{goes_nowhere, can_go_on}
 use Rattle.bb_pool.proofs.Several.Turns.{IsPutting, key_left, putting_less, putting_more, number_within, number_free, putting_over, halt_more}
 use Rattle.bb_pool.proofs.workers.turn.put_kept.Goals as goal
@@ -15,6 +18,7 @@ loop-node-init g c = let m = g.P.Problem.meaning c.args.problem.now in let v = d
   putting = subst (λ xs. IsPutting m c.args.shared.now.nodes c.args.best v v xs c.args.worker.now.keys.items c.args.first) (sym c.into_iter-node-iterator.ensures.into_iter_gives.0)
       (record { on = goes_nowhere c.args.shared.now.nodes v; bounds = c.requires.bounds; waits = c.requires.waits; within = c.requires.within; free = c.requires.free });
   small = c.requires.small;
+  traced = λ root o has left. (has, subst (λ xs. AreLeftOf m c.args.best o c.args.first xs c.args.worker.now.keys.items) (sym c.into_iter-node-iterator.ensures.into_iter_gives.0) left);
 }
 
 pub index-key-requires : goal.index-key-requires
@@ -35,6 +39,10 @@ loop-node-preserved-then-not-is_below g c =
       knows = c.loop-node.invariant.knows;
       putting = putting_less (sym c.if-not-is_below.ensures) q;
       small = c.loop-node.invariant.small;
+      traced = λ root o has left. let h = c.loop-node.invariant.traced root o has left in
+          let a = subst (λ xs. AreLeftOf m c.args.best o c.loop-node.number xs (drop place keys)) steps h.1 in
+          let b = subst (λ ks. AreLeftOf m c.args.best o c.loop-node.number (c.in-Some.node ∷ c.next.new.self.rest.items) ks) first a in
+          (h.0, left_less (sym c.if-not-is_below.ensures) b);
     }
 
 pub put_child-requires-clause-counted : goal.put_child-requires-clause-counted
@@ -88,7 +96,26 @@ loop-node-preserved g c =
       putting = subst (λ ks. IsPutting m c.args.shared.now.nodes c.args.best v (doing g.Q.SharedQueue.known c.put_child.new.worker) c.next.new.self.rest.items (drop (place + 1) ks) (c.loop-node.number + 1)) (sym same)
           (putting_more _ refl refl (sym c.if-not-is_below.ensures) q done.0 done.1);
       small = subst (All (λ (k : ℕ). k < key_limit)) (sym same) c.loop-node.invariant.small;
+      traced = λ root o has left. let h = c.loop-node.invariant.traced root o has left in
+          let a = subst (λ xs. AreLeftOf m c.args.best o c.loop-node.number xs (drop place keys)) steps h.1 in
+          let b = subst (λ ks. AreLeftOf m c.args.best o c.loop-node.number (c.in-Some.node ∷ c.next.new.self.rest.items) ks) first a in (
+            subst (λ s. HasOrigin m root o s) (sym c.put_child.ensures.seat) (origin_put (numbered c.loop-node.number c.in-Some.node) (left_child (sym c.if-not-is_below.ensures) b) h.0),
+            subst (λ ks. AreLeftOf m c.args.best o (c.loop-node.number + 1) c.next.new.self.rest.items (drop (place + 1) ks)) (sym same) (left_more (sym c.if-not-is_below.ensures) b),
+          );
     }
+
+pub returns-in_err-put_child-clause-traced : goal.returns-in_err-put_child-clause-traced
+returns-in_err-put_child-clause-traced g c = let m = g.P.Problem.meaning c.args.problem.now in
+    let keys = c.loop-node.worker.keys.items in let place = c.loop-node.place in let steps = c.in-Some.ensures.steps.0 in
+    let lt : place < length keys = key_left c.loop-node.node-iterator.rest.items keys place c.loop-node.invariant.putting (let long = ap length steps in omega arith) in
+    let first : drop place keys ≡ c.index-key.result.now ∷ drop (place + 1) keys = first_key keys place c.index-key.result.now lt ∙ ap (λ (k : ℕ). k ∷ drop (place + 1) keys) (sym c.index-key.ensures) in
+    λ root o has left. let h = c.loop-node.invariant.traced root o has left in
+    let a = subst (λ xs. AreLeftOf m c.args.best o c.loop-node.number xs (drop place keys)) steps h.1 in
+    let b = subst (λ ks. AreLeftOf m c.args.best o c.loop-node.number (c.in-Some.node ∷ c.next.new.self.rest.items) ks) first a in
+    subst (λ s. IsTraced m root [] s) (sym c.put_child.ensures.seat) (origin_put (numbered c.loop-node.number c.in-Some.node) (left_child (sym c.if-not-is_below.ensures) b) h.0).traced
+
+pub returns-clause-traced : goal.returns-clause-traced
+returns-clause-traced g c = λ root o has left. (c.loop-node.invariant.traced root o has left).0.traced
 
 pub returns-in_err-put_child-clause-halt : goal.returns-in_err-put_child-clause-halt
 returns-in_err-put_child-clause-halt g c = let why = halt_more _ c.loop-node.invariant.putting.on c.in_err-put_child.ensures.halt in search (rules, why)

@@ -12,3 +12,6 @@ returns-in-Empty-clause-none g c = none_found (g.P.Problem.meaning c.args.proble
 
 pub returns-in-Above-clause-none : goal.returns-in-Above-clause-none
 returns-in-Above-clause-none g c = none_found (g.P.Problem.meaning c.args.problem.now) c.args.shared.now.nodes _ _ _ _ _ _ _ _ c.in-Above.ensures.call.1 refl c.best-best.ensures.read refl refl (λ e is. cc) tt c.limit.ensures.limit c.in-Above.ensures.knows c.requires.working
+
+pub returns-in-Got-clause-took : goal.returns-in-Got-clause-took
+returns-in-Got-clause-took g c = (c.in-Got.e.id, c.take-node.ensures.taken)

@@ -1,5 +1,8 @@
-use Rattle.std.proofs.Common.{rules, refl}
+use Rattle.std.proofs.Common.{rules, [], ◌∷◌, refl, sym, subst}
+use Rattle.bb_shared.specs.Stores.{numbered}
+use Rattle.bb_pool.specs.Origins.{IsTraced}
 use Rattle.bb_pool.specs.Together.{doing}
+use Rattle.bb_pool.proofs.Several.Origins.{traced_took}
 use Rattle.bb_pool.proofs.Several.Counting.{goes_further, can_go_on}
 use Rattle.bb_pool.proofs.Several.Turns.{goes_opened, goes_closed, work_closed, ends_closed, halt_more}
 use Rattle.bb_pool.proofs.workers.turn.take_turn.Goals as goal
@@ -27,3 +30,14 @@ returns-in_ok-expand_node-in-Some-clause-turn g c = let worked = c.in_ok-expand_
       goes_closed v (record v { told = c.opened.new.seat.kept }) w x _ refl refl c.opened.ensures.opened refl refl (goes_further c.in-Some.ensures.held.0 worked.0) refl refl c.closed-in-Some.ensures.closed refl refl,
       work_closed w x _ refl refl c.closed-in-Some.ensures.closed refl worked.1,
     )
+
+pub returns-in_err-expand_node-in-Some-clause-traced : goal.returns-in_err-expand_node-in-Some-clause-traced
+returns-in_err-expand_node-in-Some-clause-traced g c = let m = g.P.Problem.meaning c.args.problem.now in let took = c.in-Some.ensures.took in let p = numbered took.0 c.in-Some.child.node in
+    λ root t. c.expand_node.ensures.traced root took.0 (subst (λ s. IsTraced m root (p ∷ []) s) (sym took.1) (traced_took p t))
+
+pub returns-in_ok-expand_node-in-Some-clause-traced : goal.returns-in_ok-expand_node-in-Some-clause-traced
+returns-in_ok-expand_node-in-Some-clause-traced g c = let m = g.P.Problem.meaning c.args.problem.now in let took = c.in-Some.ensures.took in let p = numbered took.0 c.in-Some.child.node in
+    λ root t. c.expand_node.ensures.traced root took.0 (subst (λ s. IsTraced m root (p ∷ []) s) (sym took.1) (traced_took p t))
+
+pub returns-in-None-clause-traced : goal.returns-in-None-clause-traced
+returns-in-None-clause-traced g c = λ root t. subst (λ s. IsTraced (g.P.Problem.meaning c.args.problem.now) root [] s) (sym c.in-None.ensures.same) t
