@@ -71,13 +71,14 @@ impl ActiveShop {
     {
         let jobs = self.shop.job_count();
         let machines = self.shop.machine_count();
-        let none = [0u32; (MAX_JOBS + MAX_MACHINES) as usize];
-        self.bound_by(&none[..jobs], &none[..jobs], &none[..machines])
+        let steps = [0u8; (MAX_JOBS + MAX_MACHINES) as usize];
+        let times = [0u32; (MAX_JOBS + MAX_MACHINES) as usize];
+        self.bound_by(&steps[..jobs], &times[..jobs], &times[..machines])
     }
 
     /// The bound of a node with these next steps and ready times. One pass over the operations, and for each machine a
     /// pass over its tasks for each of them.
-    pub(crate) fn bound_by(&self, steps: &[u32], jobs: &[u32], machines: &[u32]) -> u32
+    pub(crate) fn bound_by(&self, steps: &[u8], jobs: &[u32], machines: &[u32]) -> u32
         requires { FitTo self.now steps.now jobs.now machines.now }
         ensures { result ≡ bound_by self.now steps.now jobs.now machines.now }
     {
@@ -100,7 +101,7 @@ impl ActiveShop {
 fn bound_with<const HEADS: usize, const TASKS: usize>(
     shop: &Shop,
     rows: &[Vec<Visit>],
-    steps: &[u32],
+    steps: &[u8],
     jobs: &[u32],
     machines: &[u32],
 ) -> u32
@@ -119,7 +120,7 @@ fn bound_with<const HEADS: usize, const TASKS: usize>(
 fn bound_over(
     shop: &Shop,
     rows: &[Vec<Visit>],
-    steps: &[u32],
+    steps: &[u8],
     jobs: &[u32],
     machines: &[u32],
     heads: &mut [u32],

@@ -43,7 +43,7 @@ fn write_heads(
 /// finishes at the earliest. One pass over these operations.
 pub fn write_all_heads(
     shop: &Shop,
-    steps: &[u32],
+    steps: &[u8],
     jobs: &[u32],
     machines: &[u32],
     table: &mut [u32],

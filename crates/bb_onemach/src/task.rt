@@ -27,7 +27,7 @@ pub const NO_TASK: Task = Task {
 /// in a table by job and step. One pass.
 pub fn put_tasks(
     row: &[Visit],
-    steps: &[u32],
+    steps: &[u8],
     heads: &[u32],
     machines: usize,
     tasks: &mut [Task],
@@ -41,7 +41,7 @@ pub fn put_tasks(
     let mut count = 0;
     for visit in row {
         let job = visit.job as usize;
-        if steps[job] <= visit.step {
+        if (steps[job] as u32) <= visit.step {
             tasks[count] = Task {
                 head: heads[job * machines + visit.step as usize],
                 time: visit.time,

@@ -8,4 +8,5 @@ pub mod Worked
 pub mod Tables
 pub mod Loading
 pub mod Working
+pub mod Memory
 pub mod Judging

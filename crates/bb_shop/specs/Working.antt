@@ -1,9 +1,9 @@
 -- What the program makes of a node: from each job's next step, and from the ready times of jobs and machines.
-use Rattle.std.specs.Prelude.{ℕ, ◌≡◌, ◌+◌, ◌-◌, ◌≤◌, ◌<◌, List, [], ◌∷◌, ◌++◌, length, take, drop, max, min, set}
-use Rattle.std.specs.Prelude.{replicate, map}
+use Rattle.std.specs.Prelude.{ℕ, ◌≡◌, ◌+◌, ◌-◌, ◌*◌, ◌≤◌, ◌<◌, List, [], ◌∷◌, ◌++◌, length, take, drop, max, min, set}
+use Rattle.std.specs.Prelude.{replicate, map, sum}
 use Rattle.inst_text.specs.declared.shop.Operation.{Operation}
 use Rattle.inst_text.specs.Shop.{JobShop}
-use Rattle.inst_text.specs.Limits.{max_total}
+use Rattle.inst_text.specs.Limits.{max_jobs, max_machines, max_total}
 use Rattle.bb_shop.specs.Plans.{row_at, operation_at}
 use Rattle.bb_shop.specs.Dispatching.{State, number_in, starts_of, state_of, IsOrder}
 use Rattle.bb_shop.specs.Bounds.{Load, finish, job_load, machine_bound, greatest, all_joined, each_from}
@@ -89,11 +89,16 @@ pub record IsLeftAt (s : JobShop) (node : Node) (j : ℕ) : Type 0 where
 abbrev pub part : ℕ → ℕ → List ℕ → List ℕ
 part from to xs = take (to - from) (drop from xs)
 
--- how a node of so many jobs and machines is kept: the jobs' ready times, the machines' ready times, the jobs' next
--- steps, and the order
-pub record IsKept (jobs machines : ℕ) (numbers : List ℕ) : Type 0 where
-  pub long : jobs + machines + jobs ≤ length numbers
-  pub within : (k : ℕ) → k < jobs + machines → number_in numbers k ≤ max_total
+-- How a node of so many jobs and machines is kept, which has dispatched so many operations: the jobs' ready times and
+-- then the machines'; and the jobs' next steps, the jobs dispatched, and room for a job for each operation in all.
+pub record IsKept (jobs machines depth : ℕ) (times bytes : List ℕ) : Type 0 where
+  pub few_jobs : jobs ≤ max_jobs
+  pub few_machines : machines ≤ max_machines
+  pub times_fit : jobs + machines ≤ length times
+  pub bytes_fit : jobs + jobs * machines ≤ length bytes
+  pub within : (k : ℕ) → k < jobs + machines → number_in times k ≤ max_total
+  pub steps : AreUpTo machines (take jobs bytes)
+  pub dispatched : sum (take jobs bytes) ≡ depth
 
 -- the schedule with this operation of job j dispatched
 abbrev pub dispatched_by : State → Operation → ℕ → State

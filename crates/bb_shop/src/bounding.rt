@@ -59,7 +59,7 @@ pub fn greatest_of(numbers: &[u32]) -> u32
 
 impl Shop {
     /// The bound of a node with these next steps and ready times. One pass over the operations that are left.
-    pub(crate) fn bound_by(&self, steps: &[u32], jobs: &[u32], machines: &[u32]) -> u32
+    pub(crate) fn bound_by(&self, steps: &[u8], jobs: &[u32], machines: &[u32]) -> u32
         requires { FitTo self.now steps.now jobs.now machines.now }
         ensures { result ≡ bound_by self.now steps.now jobs.now machines.now }
     {
@@ -76,7 +76,7 @@ impl Shop {
 
     /// The same, with a table of so many loads. A function clears all of its tables when it is entered, so each size
     /// has a function of its own.
-    fn bound_with<const N: usize>(&self, steps: &[u32], jobs: &[u32], machines: &[u32]) -> u32
+    fn bound_with<const N: usize>(&self, steps: &[u8], jobs: &[u32], machines: &[u32]) -> u32
         requires fit { FitTo self.now steps.now jobs.now machines.now }
         requires places { length machines.now ≤ N }
         requires few { N ≤ max_machines }
@@ -88,7 +88,7 @@ impl Shop {
     /// The same, with a table of loads of no operations, for as many machines at least as there are.
     fn bound_over(
         &self,
-        steps: &[u32],
+        steps: &[u8],
         jobs: &[u32],
         machines: &[u32],
         loads: &mut [MachineLoad],
@@ -108,7 +108,7 @@ impl Shop {
     /// operations, what the operations that are left ask of them. One pass over these operations.
     fn last_finish(
         &self,
-        steps: &[u32],
+        steps: &[u8],
         jobs: &[u32],
         machines: &[u32],
         loads: &mut [MachineLoad],

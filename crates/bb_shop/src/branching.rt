@@ -23,7 +23,7 @@ const MOST_JOBS: usize = MAX_JOBS as usize;
 pub type SomeJobs = ArrayVec<u8, { MOST_JOBS }>;
 
 /// The jobs that have fewer steps done than there are machines, in order. One pass.
-fn left(steps: &[u32], machines: usize) -> SomeJobs
+fn left(steps: &[u8], machines: usize) -> SomeJobs
     requires { length steps.now ≤ max_jobs }
     ensures { result.items ≡ left_in machines steps.now }
 {

@@ -10,6 +10,7 @@ mod laws;
 mod machine_load;
 mod makespan;
 mod node;
+mod node_memory;
 mod operation_id;
 mod planning;
 mod prepared_operation;

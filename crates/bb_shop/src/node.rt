@@ -1,9 +1,10 @@
 //! A node of the search, and what dispatching an operation makes of it.
-ghost use Rattle.std.specs.Prelude.{◌≡◌, ◌+◌, ◌≤◌, ◌<◌, [], length, replicate, slice_index, IfOk};
-ghost use Rattle.inst_text.specs.Limits.{max_jobs, max_machines, max_total};
+ghost use Rattle.std.specs.Prelude.{◌≡◌, ◌+◌, ◌*◌, ◌≤◌, ◌<◌, [], length, replicate, slice_index, IfOk};
+ghost use Rattle.inst_text.specs.Limits.{max_jobs, max_machines, max_operations, max_total};
 ghost use Rattle.bb_shop.specs.Working.{AreUpTo, child_by};
 
-use inst_text::{MAX_JOBS, MAX_MACHINES, MAX_TOTAL, Operation};
+use crate::node_memory::{Change, NodeMemory};
+use inst_text::{MAX_TOTAL, Operation};
 use pq_io::NoMemory;
 use std::alloc::Global;
 use std::marker::Model;
@@ -11,38 +12,42 @@ use std::marker::Model;
 /// A node of the search: the jobs dispatched so far, each job's next step, and when the jobs and the machines
 /// are ready for their next operations.
 ///
-/// It takes one piece of memory, of just the numbers that it has.
+/// It takes one piece of memory, of four bytes for each ready time, and one byte for each job and each operation.
 #[derive(Debug, Drop)]
 pub struct ShopNode {
-    job_count: u32,
-    machine_count: u32,
-    /// The ready times of the jobs, those of the machines, the next steps of the jobs, and the jobs dispatched
-    /// so far.
-    numbers: Vec<u32>,
+    job_count: u8,
+    machine_count: u8,
+    /// How many operations are dispatched.
+    depth: u16,
+    /// The ready times of the jobs and those of the machines; then, as bytes, the next steps of the jobs and the jobs
+    /// dispatched so far.
+    memory: NodeMemory,
 }
 
 impl Model for ShopNode {
-    ghost use Rattle.std.specs.Prelude.{◌+◌, take, drop};
+    ghost use Rattle.std.specs.Prelude.{◌+◌, take};
     ghost use Rattle.bb_shop.specs.Branching.{Node};
+    ghost use Rattle.bb_shop.specs.Memory.{times_of, bytes_of};
     ghost use Rattle.bb_shop.specs.Working.{IsKept, part};
 
     ghost Value = { Node };
 
     ghost view = { λ n. record {
-      order = drop (n.job_count + n.machine_count + n.job_count) n.numbers.items;
-      steps = part (n.job_count + n.machine_count) (n.job_count + n.machine_count + n.job_count) n.numbers.items;
-      jobs = take n.job_count n.numbers.items;
-      machines = part n.job_count (n.job_count + n.machine_count) n.numbers.items;
+      order = part n.job_count (n.job_count + n.depth) (bytes_of n.memory);
+      steps = take n.job_count (bytes_of n.memory);
+      jobs = take n.job_count (times_of n.memory);
+      machines = part n.job_count (n.job_count + n.machine_count) (times_of n.memory);
     } };
 
-    ghost invariant = { λ n. IsKept n.job_count n.machine_count n.numbers.items };
+    ghost invariant = { λ n. IsKept n.job_count n.machine_count n.depth (times_of n.memory) (bytes_of n.memory) };
 }
 
 impl ShopNode {
-    /// The node that dispatches nothing yet. O(n) in the number of jobs and machines.
+    /// The node that dispatches nothing yet. O(n) in the number of jobs, machines and operations.
     pub(crate) fn root(alloc: Global, jobs: usize, machines: usize) -> Result<ShopNode, NoMemory>
         requires jobs { jobs ≤ max_jobs }
         requires machines { machines ≤ max_machines }
+        requires operations { jobs * machines ≤ max_operations }
         ensures { IfOk result (λ node. node ≡ record {
           order = [];
           steps = replicate jobs 0;
@@ -50,11 +55,11 @@ impl ShopNode {
           machines = replicate machines 0;
         }) }
     {
-        let none = [0u32; (2 * MAX_JOBS + MAX_MACHINES) as usize];
         Ok(ShopNode {
-            job_count: jobs as u32,
-            machine_count: machines as u32,
-            numbers: Vec::from_slice(alloc, &none[..jobs + machines + jobs])?,
+            job_count: jobs as u8,
+            machine_count: machines as u8,
+            depth: 0,
+            memory: NodeMemory::cleared(alloc, jobs + machines, jobs + jobs * machines)?,
         })
     }
 
@@ -63,7 +68,7 @@ impl ShopNode {
         ensures jobs { result.now ≡ self.now.jobs }
         ensures within { AreUpTo max_total self.now.jobs }
     {
-        &self.numbers[..self.job_count as usize]
+        &self.memory.times()[..usize::from(self.job_count)]
     }
 
     /// When each machine is ready. Constant time.
@@ -71,24 +76,23 @@ impl ShopNode {
         ensures machines { result.now ≡ self.now.machines }
         ensures within { AreUpTo max_total self.now.machines }
     {
-        let first = self.job_count as usize;
-        &self.numbers[first..first + self.machine_count as usize]
+        let first = usize::from(self.job_count);
+        &self.memory.times()[first..first + usize::from(self.machine_count)]
     }
 
     /// Each job's next step. Constant time.
-    pub fn steps(&self) -> &[u32]
+    pub fn steps(&self) -> &[u8]
         ensures { result.now ≡ self.now.steps }
     {
-        let first = self.job_count as usize + self.machine_count as usize;
-        &self.numbers[first..first + self.job_count as usize]
+        &self.memory.bytes()[..usize::from(self.job_count)]
     }
 
     /// The jobs dispatched so far. Constant time.
-    pub fn order(&self) -> &[u32]
+    pub fn order(&self) -> &[u8]
         ensures { result.now ≡ self.now.order }
     {
-        let first = self.job_count as usize + self.machine_count as usize;
-        &self.numbers[first + self.job_count as usize..]
+        let first = usize::from(self.job_count);
+        &self.memory.bytes()[first..first + usize::from(self.depth)]
     }
 
     /// The child that dispatches this operation, the job's next one. It copies the node.
@@ -98,26 +102,26 @@ impl ShopNode {
         operation: Operation,
         job: usize,
     ) -> Result<ShopNode, NoMemory>
-        requires few { length self.now.steps ≤ max_jobs }
         requires job { job < length self.now.steps }
-        requires step { slice_index self.now.steps job < max_machines }
+        requires step { slice_index self.now.steps job < length self.now.machines }
         requires machine { operation.machine < length self.now.machines }
         ensures { IfOk result (λ child. child ≡ child_by self.now operation job) }
     {
-        let ready = self.job_count as usize + self.machine_count as usize;
-        let machine = self.job_count as usize + operation.machine as usize;
-        let mut numbers = Vec::with_capacity(alloc, self.numbers.len() + 1)?;
-        numbers.extend_from_slice(self.numbers.as_slice())?;
-        let start = numbers[job].max(numbers[machine]);
-        let end = start.saturating_add(operation.time).min(MAX_TOTAL);
-        numbers[job] = end;
-        numbers[machine] = end;
-        numbers[ready + job] += 1;
-        numbers.push(job as u32)?;
+        let first = usize::from(self.job_count);
+        let machine = first + operation.machine as usize;
+        let times = self.memory.times();
+        let start = times[job].max(times[machine]);
+        let change = Change {
+            job,
+            machine,
+            end: start.saturating_add(operation.time).min(MAX_TOTAL),
+            place: first + usize::from(self.depth),
+        };
         Ok(ShopNode {
             job_count: self.job_count,
             machine_count: self.machine_count,
-            numbers,
+            depth: self.depth + 1,
+            memory: self.memory.changed(alloc, change)?,
         })
     }
 }

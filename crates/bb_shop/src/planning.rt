@@ -102,7 +102,7 @@ fn dispatch(shop: &Shop, schedule: Schedule, job: usize) -> Result<Schedule, NoM
 
 /// The start times come to by dispatching these jobs in order. A job that has no operation left is passed over.
 /// O(n) in the number of operations.
-pub fn plan(alloc: Global, shop: &Shop, order: &[u32]) -> Result<Starts, NoMemory>
+pub fn plan(alloc: Global, shop: &Shop, order: &[u8]) -> Result<Starts, NoMemory>
     ensures plan { IfOk result (λ starts. IsPlanOf shop.now order.now starts) }
     ensures within_limits { IsJobShop shop.now }
 {

@@ -79,8 +79,9 @@ impl Shop {
     {
         let jobs = self.job_count();
         let machines = self.machine_count();
-        let none = [0u32; (MAX_JOBS + MAX_MACHINES) as usize];
-        self.bound_by(&none[..jobs], &none[..jobs], &none[..machines])
+        let steps = [0u8; (MAX_JOBS + MAX_MACHINES) as usize];
+        let times = [0u32; (MAX_JOBS + MAX_MACHINES) as usize];
+        self.bound_by(&steps[..jobs], &times[..jobs], &times[..machines])
     }
 
     /// The verdict on start times and the makespan that is stated for them: the first clause that fails. It takes

@@ -1,17 +1,25 @@
-use Rattle.std.proofs.Common.{◌≡◌, ℕ, ◌+◌, ◌*◌, replicate, ap, subst, sym, ◌∙◌, arith}
-use Rattle.std.proofs.lemmas.List.{take-replicate}
-use Rattle.inst_text.specs.Limits.{max_jobs, max_machines}
+use Rattle.std.proofs.Common.{◌≡◌, ◌+◌, ◌*◌, length, replicate, ap, subst, sym, ◌∙◌, arith}
+use Rattle.bb_shop.specs.Memory.{times_of, bytes_of}
 use Rattle.bb_shop.specs.Working.{IsKept}
 use Rattle.bb_shop.proofs.Kept.{IsKept-root, node_of, node_of-root}
 use Rattle.bb_shop.proofs.node.ShopNode.root.Goals as goal
 
-none : (c : goal.In_ok-from_slice) → c.in_ok-from_slice.field-0.items ≡ replicate {A = ℕ} (c.args.jobs + c.args.machines + c.args.jobs) 0
-none c =
-    c.in_ok-from_slice.ensures.items
-    ∙ take-replicate (c.args.jobs + c.args.machines + c.args.jobs) (2 * max_jobs + max_machines) 0 (omega (arith, c.requires.jobs, c.requires.machines))
-
 pub invariant_of-result : goal.invariant_of-result
-invariant_of-result c = subst (IsKept c.args.jobs c.args.machines) (sym (none c)) (IsKept-root c.args.jobs c.args.machines)
+invariant_of-result c =
+    let n = c.args.jobs in
+    let m = c.args.machines in
+    let memory = c.in_ok-cleared.field-0 in
+    let now = c.in_ok-cleared.ensures in
+    subst (λ times. IsKept n m 0 times (bytes_of memory)) (sym now.no_time)
+    (subst (IsKept n m 0 (replicate (length (times_of memory)) 0)) (sym now.no_byte)
+    (IsKept-root n m (length (times_of memory)) (length (bytes_of memory)) c.requires.jobs c.requires.machines now.times now.bytes))
 
 pub returns : goal.returns
-returns c = ap (node_of c.args.jobs c.args.machines) (none c) ∙ node_of-root c.args.jobs c.args.machines
+returns c =
+    let n = c.args.jobs in
+    let m = c.args.machines in
+    let memory = c.in_ok-cleared.field-0 in
+    let now = c.in_ok-cleared.ensures in
+    ap (λ times. node_of n m 0 times (bytes_of memory)) now.no_time
+    ∙ ap (node_of n m 0 (replicate (length (times_of memory)) 0)) now.no_byte
+    ∙ node_of-root n m (length (times_of memory)) (length (bytes_of memory)) now.times (omega (arith, now.bytes))
