@@ -29,6 +29,13 @@ run_once() {
     awk '{ print 1000 * ($1 + $2) }' "$build/time"
 }
 
+# Runs a command so many times on the input in the file $2: again TIMES FILE COMMAND..
+again() {
+    local times=$1 input=$2
+    shift 2
+    for _ in $(seq "$times"); do "$@" <"$input" || return; done
+}
+
 # The least time that each of two commands takes, run by turns: compare NAME INPUT ROUNDS ours.. -- baseline..
 # Where the variable nodes says how many nodes each makes, also the nodes a second.
 nodes=
