@@ -72,6 +72,7 @@ module _ (k : Limits) (s : Table HuntPart) (h : Holds hunt_rule k s) (id : ℕ) 
     pub guarded : IsGuarded kind (locks_in ws) (words_in ws) (set ps id p') nodes
     pub facts : HeapFacts k.seats k.capacity size of nodes m'
     pub holds : (g : Guard) → Contains p'.own.guards g → Contains p'.locks (lock_of g.node)
+    pub named : (i : ℕ) → Contains p'.locks (lock_of i) → (g : Guard) × Contains p'.own.guards g × (g.node ≡ i)
     pub apart : IsApart p'.own.guards
     pub sizes : Sizes p' ws size
     pub inserts : Inserts p' ws of
@@ -112,6 +113,10 @@ module _ (k : Limits) (s : Table HuntPart) (h : Holds hunt_rule k s) (id : ℕ) 
         holds = λ j q g to has. ⊎_elim
             (λ e. subst (λ (z : Post HuntPart). Contains z.locks (lock_of g.node)) e.1 (c.holds g (subst (λ (z : Post HuntPart). Contains z.own.guards g) (sym e.1) has)))
             (λ a. t.holds j q g a.1 has)
+            (at_set ps id j p' q to);
+        named = λ j q i to has. ⊎_elim
+            (λ e. subst (λ (z : Post HuntPart). (g : Guard) × Contains z.own.guards g × (g.node ≡ i)) e.1 (c.named i (subst (λ (z : Post HuntPart). Contains z.locks (lock_of i)) (sym e.1) has)))
+            (λ a. t.named j q i a.1 has)
             (at_set ps id j p' q to);
         apart = λ j q to. ⊎_elim (λ e. subst (λ (z : Post HuntPart). IsApart z.own.guards) e.1 c.apart) (λ a. t.apart j q a.1) (at_set ps id j p' q to);
         told = λ j q to pos. ⊎_elim

@@ -177,6 +177,7 @@ module _ (k : Limits) (s : Table HuntPart) (h : Holds hunt_rule k s) (id : ℕ) 
             (same_locks s.words 0 new (omega arith)) (same_words s.words 0 new (omega arith)) (λ j q g to has. (q, to, has)) d.guarded;
         facts = d.facts;
         holds = λ g has. let r = in_same v.post.own.guards own.guards d.same g has in subst (λ (z : ℕ). Contains v.post.locks (lock_of z)) r.2 (t.holds id v.post r.0 here r.1);
+        named = λ j has. let old = t.named id v.post j here has in let r = in_same own.guards v.post.own.guards (sym d.same) old.0 old.1 in (r.0, r.1, r.2 ∙ old.2);
         apart = apart_same v.post.own.guards own.guards d.same (t.apart id v.post here);
         sizes = record {
           free = λ e. ⊎_elim (λ q. there ∙ (t.free (sym lock ∙ e) ∙ sym q.0))

@@ -85,6 +85,7 @@ may_leave k id v owner letter has s h at empty =
           t.guarded;
       facts = t.facts;
       holds = λ g has_g. t.holds id v.post g here has_g;
+      named = λ j locked. t.named id v.post j here locked;
       apart = t.apart id v.post here;
       sizes = record {
         free = λ e. size ∙ t.free (sym lock ∙ e);

@@ -1,7 +1,7 @@
 -- Taking and freeing a lock of the heap, and leaving a letter, keep its facts.
 use Rattle.std.proofs.Common.{◌≡◌, ◌≢◌, ◌⊎◌, ℕ, ◌<◌, ◌≤◌, Bool, true, false, cond, eqb, List, [], ◌∷◌, ◌++◌, length, get_or, set, inl, inr, ⊎_elim, refl, sym, ap, ◌∙◌, subst, arith, get_or-set_other, get_or-set_same, length-set, eq-eqb, ne_eqb}
 use Rattle.std.specs.Prelude.{Contains}
-use Rattle.std.proofs.lemmas.List.Elements.{Contains-append_cases, Contains-append_left}
+use Rattle.std.proofs.lemmas.List.Elements.{Contains-append_cases, Contains-append_left, Contains-append_right}
 use mathlib.Core.Option.{some}
 use lib.ListN.{get_elem?}
 use native.Mathlib.Decide.{ℕ_discrete}
@@ -15,7 +15,7 @@ use Rattle.pq_seats.specs.Posts.{with_lock, without_lock}
 use Rattle.pq_seats.specs.Allowed.{MayTake, MayFree}
 use Rattle.pq_seats.specs.Steps.{Took}
 use Rattle.pq_hunt.specs.Passes.{TookNode}
-use Rattle.pq_seats.proofs.Lists.{in_later, in_cases, less_has, has_less, not_in}
+use Rattle.pq_seats.proofs.Lists.{in_first, in_later, in_cases, less_has, has_less, not_in}
 use Rattle.pq_seats.proofs.Keeps.{limits_of}
 use Rattle.pq_nodes.specs.Guards.{IsGuarded, IsSetAt}
 use Rattle.pq_nodes.proofs.Locks.{lock_taken, lock_freed}
@@ -126,6 +126,7 @@ module _ (k : Limits) (id : ℕ) (v : View HuntPart) where
               t.guarded;
           facts = t.facts;
           holds = λ g has. in_later 24 (lock_of g.node) w.post.locks (t.holds id w.post g (pat k s h id w at) has);
+          named = λ i has. t.named id w.post i (pat k s h id w at) (⊎_elim (λ e. absurd (omega arith)) (λ a. a) (in_cases 24 (lock_of i) w.post.locks has));
           apart = t.apart id w.post (pat k s h id w at);
           sizes = record {
             free = λ e. absurd (omega arith);
@@ -171,6 +172,10 @@ module _ (k : Limits) (id : ℕ) (v : View HuntPart) where
               (lock_set s.words i w.post.number (omega arith)) refl refl more);
           facts = t.facts;
           holds = λ x has. ⊎_elim (λ e. (0, omega arith, ap (λ (z : Guard). lock_of z.node) e)) (λ old. in_later (lock_of i) (lock_of x.node) w.post.locks (t.holds id w.post x (pat k s h id w at) old)) (more x has);
+          named = λ j has. ⊎_elim
+              (λ e. (g, Contains-append_right w.post.own.guards (g ∷ []) g (in_first g []), omega arith))
+              (λ old. let r = t.named id w.post j (pat k s h id w at) old in (r.0, Contains-append_left w.post.own.guards (g ∷ []) r.0 r.1, r.2))
+              (in_cases (lock_of i) (lock_of j) w.post.locks has);
           apart = apart_snoc g w.post.own.guards (λ x has e. (t.guarded.held id w.post x (pat k s h id w at) has).locked (ap (locks_in s.words) e ∙ zero_word)) (t.apart id w.post (pat k s h id w at));
           sizes = record {
             free = λ e. there ∙ t.free (sym lock ∙ e);
@@ -206,6 +211,7 @@ module _ (k : Limits) (id : ℕ) (v : View HuntPart) where
             t.guarded;
         facts = t.facts;
         holds = λ g has. has_less 24 v.post.locks (lock_of g.node) (t.holds id v.post g (pat k s h id v at) has) (λ e. omega arith);
+        named = λ i has. t.named id v.post i (pat k s h id v at) (less_has 24 v.post.locks (lock_of i) has).0;
         apart = t.apart id v.post (pat k s h id v at);
         sizes = record {
           free = λ e. there ∙ (old.1 ∙ (same ∙ old.0));
@@ -240,6 +246,8 @@ module _ (k : Limits) (id : ℕ) (v : View HuntPart) where
             (λ x left. let r = without_guard_has (lock_of i) v.post.own.guards x left in ((λ e. r.0 (ap lock_of e)), r.1)));
         facts = t.facts;
         holds = λ x left. let r = without_guard_has (lock_of i) v.post.own.guards x left in has_less (lock_of i) v.post.locks (lock_of x.node) (t.holds id v.post x (pat k s h id v at) r.1) r.0;
+        named = λ j left. let l = less_has (lock_of i) v.post.locks (lock_of j) left in let r = t.named id v.post j (pat k s h id v at) l.0 in
+            (r.0, has_without_guard (lock_of i) v.post.own.guards r.0 r.1 (λ e. l.1 (ap lock_of (sym r.2) ∙ e)), r.2);
         apart = apart_without (lock_of i) v.post.own.guards (t.apart id v.post (pat k s h id v at));
         sizes = record {
           free = λ e. there ∙ t.free (sym lock ∙ e);

@@ -76,6 +76,7 @@ module _ (k : Limits) (s : Table HuntPart) (h : Holds hunt_rule k s) (id : ℕ) 
             (same_locks s.words 25 x (omega arith)) (same_words s.words 25 x (omega arith)) (same_guards p' refl) t.guarded;
         facts = t.facts;
         holds = λ g has. t.holds id v.post g here has;
+        named = λ j has. t.named id v.post j here has;
         apart = t.apart id v.post here;
         sizes = record {
           free = λ e. absurd (some_number (sym is_mine ∙ (sym lock ∙ e)));
@@ -101,6 +102,7 @@ module _ (k : Limits) (s : Table HuntPart) (h : Holds hunt_rule k s) (id : ℕ) 
         guarded = guarded_on kind (locks_in s.words) (locks_in s.words) (words_in s.words) (words_in s.words) qs (set qs id p') t.nodes (λ i. refl) (λ i. refl) (same_guards p' guards) t.guarded;
         facts = facts;
         holds = λ g has. subst (λ (z : List ℕ). Contains z (lock_of g.node)) (sym locks) (t.holds id v.post g here (subst (λ (l : List Guard). Contains l g) guards has));
+        named = λ j has. let old = t.named id v.post j here (subst (λ (z : List ℕ). Contains z (lock_of j)) locks has) in (old.0, subst (λ (l : List Guard). Contains l old.0) (sym guards) old.1, old.2);
         apart = subst IsApart (sym guards) (t.apart id v.post here);
         sizes = record {
           free = t.free;

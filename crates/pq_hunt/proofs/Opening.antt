@@ -15,7 +15,7 @@ use Rattle.pq_hunt.specs.declared.nodes.Node.{Node}
 use Rattle.pq_hunt.specs.declared.nodes.Node.TheVariants.{Empty}
 use Rattle.pq_hunt.specs.declared.views.Guard.{Guard}
 use Rattle.pq_hunt.specs.declared.views.HuntPart.{HuntPart}
-use Rattle.pq_hunt.specs.Layout.{heap_lock, size_word, word_of, word_count}
+use Rattle.pq_hunt.specs.Layout.{heap_lock, size_word, lock_of, word_of, word_count}
 use Rattle.pq_hunt.specs.Words.{Means}
 use Rattle.pq_hunt.specs.Views.{idle}
 use Rattle.pq_hunt.specs.Flights.{Flight, flight}
@@ -82,6 +82,7 @@ module _ (capacity seats : ℕ) (words : List ℕ) (low : 1 ≤ seats) (high : s
     free = λ unlocked. zeros size_word;
     held = λ j p at has. absurd (not_in heap_lock (subst (λ (q : Post HuntPart). Contains q.locks heap_lock) (sym (only j p at)) has));
     holds = λ j p g at has. absurd (no_guard j p g at has);
+    named = λ j p i at has. absurd (not_in (lock_of i) (subst (λ (q : Post HuntPart). Contains q.locks (lock_of i)) (sym (only j p at)) has));
     apart = λ j p at. subst (λ (q : Post HuntPart). IsApart q.own.guards) (only j p at) tt;
     told = λ j p at positive. let n : 0 ≡ p.number = ap (λ (q : Post HuntPart). q.number) (only j p at) in absurd (omega arith);
     borne = λ n waits. absurd (omega arith);

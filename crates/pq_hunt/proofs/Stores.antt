@@ -80,6 +80,8 @@ module _ (k : Limits) (s : Table HuntPart) (h : Holds hunt_rule k s) (id : ℕ) 
         facts = facts;
         holds = λ g has. let r = in_same v.post.own.guards p'.own.guards same g has in
             subst (λ (z : List ℕ). Contains z (lock_of g.node)) (sym locks) (subst (λ (z : ℕ). Contains v.post.locks (lock_of z)) r.2 (t.holds id v.post r.0 here r.1));
+        named = λ j has. let old = t.named id v.post j here (subst (λ (z : List ℕ). Contains z (lock_of j)) locks has) in
+            let r = in_same p'.own.guards v.post.own.guards (sym same) old.0 old.1 in (r.0, r.1, r.2 ∙ old.2);
         apart = apart_same v.post.own.guards p'.own.guards same (t.apart id v.post here);
         sizes = sizes;
         inserts = inserts;

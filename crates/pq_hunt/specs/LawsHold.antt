@@ -102,6 +102,7 @@ module _ (k : Limits) (s : Table HuntPart) (h : Holds hunt_rule k s) where
         free = t.free;
         held = λ j p at has. ⊎_elim (λ a. t.held j p a has) (λ e. absurd (not_in heap_lock (subst (λ (z : Post HuntPart). Contains z.locks heap_lock) (sym e) has))) (at_snoc ps f p j at);
         holds = λ j p g at has. ⊎_elim (λ a. t.holds j p g a has) (λ e. absurd (no_guard g (subst (λ (z : Post HuntPart). Contains z.own.guards g) (sym e) has))) (at_snoc ps f p j at);
+        named = λ j p i at has. ⊎_elim (λ a. t.named j p i a has) (λ e. absurd (not_in (lock_of i) (subst (λ (z : Post HuntPart). Contains z.locks (lock_of i)) (sym e) has))) (at_snoc ps f p j at);
         apart = λ j p at. ⊎_elim (λ a. t.apart j p a) (λ e. subst (λ (z : Post HuntPart). IsApart z.own.guards) e tt) (at_snoc ps f p j at);
         told = λ j p at pos. ⊎_elim
             (λ a. told_on s.words s.words ps (ps ++ f ∷ []) t.of p (same p.number) (t.told j p a pos))
@@ -142,6 +143,7 @@ module _ (k : Limits) (s : Table HuntPart) (h : Holds hunt_rule k s) where
           free = t.free;
           held = λ i p to has. ⊎_elim (λ e. absurd (not_in heap_lock (subst (λ (z : Post HuntPart). Contains z.locks heap_lock) (sym e.1) has))) (λ a. t.held i p a.1 has) (at_set ps j i f p to);
           holds = λ i p g to has. ⊎_elim (λ e. absurd (no_guard g (subst (λ (z : Post HuntPart). Contains z.own.guards g) (sym e.1) has))) (λ a. t.holds i p g a.1 has) (at_set ps j i f p to);
+          named = λ i p n to has. ⊎_elim (λ e. absurd (not_in (lock_of n) (subst (λ (z : Post HuntPart). Contains z.locks (lock_of n)) (sym e.1) has))) (λ a. t.named i p n a.1 has) (at_set ps j i f p to);
           apart = λ i p to. ⊎_elim (λ e. subst (λ (z : Post HuntPart). IsApart z.own.guards) e.1 tt) (λ a. t.apart i p a.1) (at_set ps j i f p to);
           told = λ i p to pos. ⊎_elim
               (λ e. let is : 0 ≡ p.number = ap (λ (z : Post HuntPart). z.number) e.1 in absurd (omega arith))
@@ -199,6 +201,9 @@ module _ (k : Limits) (s : Table HuntPart) (h : Holds hunt_rule k s) where
           holds = λ i q g to has. ⊎_elim
               (λ e. subst (λ (z : Post HuntPart). Contains z.locks (lock_of g.node)) e.1 (t.holds j v.post g pat (subst (λ (z : Post HuntPart). Contains z.own.guards g) (sym e.1) has)))
               (λ a. t.holds i q g a.1 has) (at_set ps j i p' q to);
+          named = λ i q n to has. ⊎_elim
+              (λ e. subst (λ (z : Post HuntPart). (g : Guard) × Contains z.own.guards g × (g.node ≡ n)) e.1 (t.named j v.post n pat (subst (λ (z : Post HuntPart). Contains z.locks (lock_of n)) (sym e.1) has)))
+              (λ a. t.named i q n a.1 has) (at_set ps j i p' q to);
           apart = λ i q to. ⊎_elim (λ e. subst (λ (z : Post HuntPart). IsApart z.own.guards) e.1 (t.apart j v.post pat)) (λ a. t.apart i q a.1) (at_set ps j i p' q to);
           told = λ i q to pos. ⊎_elim
               (λ e. subst (λ (z : Post HuntPart). IsInserting ws (set ps j p') t.of z) e.1 (record {

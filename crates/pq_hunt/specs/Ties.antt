@@ -57,7 +57,7 @@ pub record HuntTied (k : Limits) (words : List ℕ) (posts : List (Post HuntPart
   pub size : ℕ
   pub of : ℕ → Flight
   pub nodes : List Node
-  -- a node that is not locked counts as its word says, and one that is as its holder's view names it
+  -- a node that is not locked counts as its word says, and one that a view has a guard of counts as the guard says
   pub guarded : IsGuarded kind (locks_in words) (words_in words) posts nodes
   pub facts : HeapFacts k.seats k.capacity size of nodes m
   -- so does the size
@@ -67,6 +67,9 @@ pub record HuntTied (k : Limits) (words : List ℕ) (posts : List (Post HuntPart
   -- a guard is of a node whose lock the seat holds
   pub holds : (j : ℕ) (p : Post HuntPart) (g : Guard) → get_elem? posts j ≡ some p → Contains p.own.guards g
       → Contains p.locks (lock_of g.node)
+  -- and the seat has a guard for each node whose lock it holds
+  pub named : (j : ℕ) (p : Post HuntPart) (i : ℕ) → get_elem? posts j ≡ some p → Contains p.locks (lock_of i)
+      → (g : Guard) × Contains p.own.guards g × (g.node ≡ i)
   pub apart : (j : ℕ) (p : Post HuntPart) → get_elem? posts j ≡ some p → IsApart p.own.guards
   pub told : (j : ℕ) (p : Post HuntPart) → get_elem? posts j ≡ some p → 0 < p.number → IsInserting words posts of p
   -- who waits has a seat

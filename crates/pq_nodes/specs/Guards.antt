@@ -1,5 +1,6 @@
--- Nodes with a word and a lock word each. The view of the seat that holds a node's lock has a guard for the node: its
--- word as stored, and what the node counts as. A node whose lock is free counts as its word says.
+-- Nodes with a word and a lock word each. Views have guards for nodes that are locked: a guard names its node's word as
+-- stored, and what the node counts as. A node whose lock is free counts as its word says. That the holder of a lock has
+-- a guard for its node is the queue's to keep.
 use Rattle.std.specs.Prelude.{◌≡◌, ◌≢◌, ℕ, ◌<◌, List, length, Contains}
 use mathlib.Core.Option.{some}
 use lib.ListN.{get_elem?, get_or}
