@@ -79,7 +79,7 @@ sorted_left xs ys moved sorted = sym (sorted_of-permutation xs ys moved ∙ sort
     (IsNonDecreasingBy-from_sort raw_of ys (λ k d low lt. subst (λ (o : Ordering). is_lt o ≡ false)
     (compared_by_raw_of (get_or ys (k + 1) d) (get_or ys k d)) (sorted k d low lt)))))
 
-node_lock : (capacity i : ℕ) → 1 ≤ i → i ≤ capacity → is_lock capacity (lock_of i) ≡ true
+pub node_lock : (capacity i : ℕ) → 1 ≤ i → i ≤ capacity → is_lock capacity (lock_of i) ≡ true
 node_lock capacity i low high = grind (arith, nat_tests)
 
 -- no node is locked, so the words say what the nodes count as

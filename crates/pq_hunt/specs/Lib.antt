@@ -13,6 +13,7 @@ pub mod Batches
 pub mod Ties
 pub mod Rules
 pub mod LawsHold
+pub mod Seen
 pub mod Steps
 pub mod Passes
 pub mod Tables

@@ -4,6 +4,7 @@ ghost use Rattle.pq_hunt.specs.Laws.{EmptyIsAStep, DrawsAreSteps, LastDrawsAreSt
 ghost use Rattle.pq_hunt.specs.Laws.{SiftsKeep, FillsKeep};
 ghost use Rattle.pq_hunt.specs.Laws.{NewHeapsKeep, QuietHeapsAreNotBusy, WordsMeanOneNode};
 ghost use Rattle.pq_hunt.specs.Laws.{PlacedHaveLetters, DrawsTell, SettlesTell};
+ghost use Rattle.pq_hunt.specs.Seen.{FreeNodesCountByWord, LockedNodesCountByGuard};
 
 /// Law: the steps of an insert keep the facts of the heap, and Full and Done are steps where they are answered.
 pub fn inserts_keep_the_heap()
@@ -42,4 +43,11 @@ pub fn owners_are_told()
 /// Law: a word says one thing of its node.
 pub fn words_mean_one_node()
     ensures { WordsMeanOneNode }
+{}
+
+/// Law: between any two steps of any seats, a node that is not locked counts as its word says, and one that is counts
+/// as a guard in its holder's view says, which names its word too.
+pub fn nodes_count_as_seen()
+    ensures free { FreeNodesCountByWord }
+    ensures locked { LockedNodesCountByGuard }
 {}
