@@ -28,8 +28,8 @@ use std::alloc::Global;
 use std::sync::Wait;
 
 /// A heap that callers share, each by a pass of its own. It has a table of words, in which each node of the heap has a
-/// word and a lock, and the size has both too. No call holds the lock of the whole heap for longer than it takes to
-/// find the root and the last node.
+/// word and a lock, and the size has both too. A call holds the lock of the size no longer
+/// than until it has drawn its place, left its letters and let the last node go; no other call begins meanwhile.
 ///
 /// The algorithm is that of "An Efficient Algorithm for Concurrent Priority Queue Heaps" by Hunt, Michael,
 /// Parthasarathy and Scott (1996), with entries that fill the levels from the left.

@@ -31,7 +31,8 @@ pub struct Lanes<P> {
 /// commands in order, each once, and no others. There is a tape for each lane, whose seat is the lane's number, with
 /// the same calls.
 ///
-/// All memory is taken before the first call on the queue. Refused for want of it, the passes are dropped.
+/// The tapes take their memory, with room for all commands, before the first call on the queue; the list of them takes
+/// its memory after the last. Refused for want of it, the passes are dropped.
 pub fn run_lanes<Rt: Threads + Wait + Sync, Q: BoundedQueue>(
     rt: &Rt,
     alloc: Global,

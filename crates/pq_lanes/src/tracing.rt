@@ -19,7 +19,7 @@ use std::thread::Threads;
 /// The history of the script, run on a new queue of this capacity with a seat for each lane.
 ///
 /// The memory for the queue and the tapes is taken before the first call on the queue, and after the last one that
-/// for the marks and the entries that are left. With several lanes one script has many histories.
+/// for the list of tapes, the marks and the entries that are left. With several lanes one script has many histories.
 pub fn trace_script<Rt: Threads + Wait + Sync, Q: BoundedQueue>(
     rt: &Rt,
     alloc: Global,

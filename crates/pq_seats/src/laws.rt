@@ -6,7 +6,8 @@ ghost use Rattle.pq_seats.specs.Laws.{OwnStepsKeep, SilentStepsKeep, PlacingStep
 use crate::SeatRule;
 
 /// Law: between any two steps the history has at most 536,870,896 marks, and each letter, in its word or owed, is Back
-/// or at most that number. So the history word stays below 2^30, and no place plus 1 reaches Back, which is 2^40.
+/// or at most that number. So no place plus 1 reaches Back, which is 2^40; and where the history word is the length of
+/// the history, it stays below 2^30.
 pub fn fields_suffice<R: SeatRule>()
     ensures { FieldsSuffice R.rule }
 {}
