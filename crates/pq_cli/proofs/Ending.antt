@@ -1,17 +1,18 @@
 -- What the status of a call says of how it ended.
-use Rattle.std.proofs.Common.{◌≡◌, ◌≤◌, ◌∙◌, ◌⊎◌, min, inl, inr, refl, ap, subst, ℕ, List, Option, None, Some, IfSome, MatchOption, arith}
+use Rattle.std.proofs.Common.{◌≡◌, ◌≤◌, ◌∙◌, ◌⊎◌, min, inl, inr, refl, sym, ap, subst, ℕ, List, Option, None, Some, IfSome, MatchOption, arith}
 use Rattle.bb_pool.specs.Outcomes.{IsOverLimit, IsFullAt}
 use Rattle.pq_cli.specs.declared.command.Command.{Command}
 use Rattle.pq_cli.specs.declared.refusal.Refusal.{Refusal}
 use Rattle.pq_cli.specs.declared.refusal.Refusal.TheVariants as refusals
 use Rattle.pq_cli.specs.declared.status.Status.{Status}
 use Rattle.pq_cli.specs.declared.status.Status.TheVariants as statuses
-use Rattle.pq_cli.specs.Commands.{work_of}
+use Rattle.pq_cli.specs.Commands.{duty_of}
+use Rattle.pq_cli.specs.Duties.{Duty, Reads, Writes}
 use Rattle.pq_cli.specs.Refusals.{status_of}
 use Rattle.pq_cli.specs.Statuses.{IsAnswered}
 use Rattle.pq_cli.specs.Streams.{Change, IsFailed}
 use Rattle.pq_cli.specs.Work.{Work, Search, fault_of, HasEnough}
-use Rattle.pq_cli.specs.Runs.{Stops, IsWhole, Ends, IsUnread, IsRun, IsReported, IsAnsweredWhole, IsComplete}
+use Rattle.pq_cli.specs.Runs.{StopsWork, Stops, Answers, IsWhole, Ends, IsUnread, IsRun, IsReported, IsAnsweredWhole, IsComplete}
 
 -- answers
 
@@ -23,17 +24,17 @@ not_answered refusals.ReadFault h = h
 not_answered refusals.NoMemory h = h
 not_answered refusals.ProofLimit h = h
 
-whole_end : {I O : Type 0} (work : Work) (status : Status) (input : Change I) (output : Change O) →
-    IsAnswered status → Ends work status input output → IsWhole work status input output
-whole_end work status input output answered (inl whole) = whole
-whole_end work status input output answered (inr (inl s)) = absurd (not_answered s.refusal (subst IsAnswered s.named answered))
-whole_end work status input output answered (inr (inr cut)) = absurd (subst IsAnswered cut.named answered)
+whole_end : {I O : Type 0} (duty : Duty) (status : Status) (input : Change I) (output : Change O) →
+    IsAnswered status → Ends duty status input output → IsWhole duty status input output
+whole_end duty status input output answered (inl whole) = whole
+whole_end duty status input output answered (inr (inl s)) = absurd (not_answered s.refusal (subst IsAnswered s.named answered))
+whole_end duty status input output answered (inr (inr cut)) = absurd (subst IsAnswered cut.named answered)
 
 whole_run : {I O : Type 0} (said : Option Command) (status : Status) (input : Change I) (output : Change O) →
     IsAnswered status → IsRun said status input output → IsAnsweredWhole said status input output
 whole_run None status input output answered ran = absurd (subst IsAnswered ran.bad_words answered)
 whole_run (Some c) status input output answered ran =
-    record { command = c; is = refl; whole = whole_end (work_of c) status input output answered ran }
+    record { command = c; is = refl; whole = whole_end (duty_of c) status input output answered ran }
 
 kept_end : {E : Type 0} (status ended : Status) (faults : Change E) → IsReported status ended faults → IsAnswered ended → ended ≡ status
 kept_end status ended faults reported answered = elim reported.line [
@@ -55,9 +56,9 @@ with_some None P f = tt
 with_some (Some x) P f = f x refl
 
 said_ends : {I O : Type 0} (said : Option Command) (c : Command) (status : Status) (input : Change I) (output : Change O) →
-    said ≡ Some c → IsRun said status input output → Ends (work_of c) status input output
+    said ≡ Some c → IsRun said status input output → Ends (duty_of c) status input output
 said_ends said c status input output is ran =
-    subst (λ o. MatchOption o (IsUnread status input output) (λ k. Ends (work_of k) status input output)) is ran
+    subst (λ o. MatchOption o (IsUnread status input output) (λ k. Ends (duty_of k) status input output)) is ran
 
 left_is : {A : Type 0} (o : Option A) (x y : A) → o ≡ Some y → IfSome o (λ z. x ≡ z) → x ≡ y
 left_is o x y is h = subst (λ p. IfSome p (λ z. x ≡ z)) is h
@@ -77,7 +78,7 @@ not_filled (Some s) bytes place enough h = omega (arith, enough.0, enough.1, h.b
 -- what a refusal leaves: where the input has a reading, the limits are enough and the source did not fail, only want of
 -- memory stops the work
 no_memory : {I : Type 0} (work : Work) (input : Change I) (refusal : Refusal) (bytes : List ℕ) → input.told input.old ≡ Some bytes →
-    fault_of work bytes ≡ None → HasEnough work bytes → (IsFailed input → ⊥) → Stops work input refusal → refusal ≡ refusals.NoMemory
+    fault_of work bytes ≡ None → HasEnough work bytes → (IsFailed input → ⊥) → StopsWork work input refusal → refusal ≡ refusals.NoMemory
 no_memory work input (refusals.BadInput fault) bytes told reads enough still h =
     let same = left_is (input.told input.old) h.bytes bytes told h.were_left in
     let faulty = h.faulty in
@@ -94,14 +95,17 @@ no_memory work input refusals.ProofLimit bytes told reads enough still h =
     let same = left_is (input.told input.old) h.bytes bytes told h.taken.were_left in
     absurd (enough.for_proof (rw same at h.holds))
 
--- the same of all three ways in which the work ends
-answered_or_no_memory : {I O : Type 0} (work : Work) (status : Status) (input : Change I) (output : Change O) (bytes : List ℕ) →
-    input.told input.old ≡ Some bytes → fault_of work bytes ≡ None → HasEnough work bytes → (IsFailed input → ⊥) → (IsFailed output → ⊥) →
-    Ends work status input output → IsAnswered status ⊎ (status ≡ statuses.NoMemory)
-answered_or_no_memory work status input output bytes told reads enough still written (inl whole) = inl whole.answers.ended
-answered_or_no_memory work status input output bytes told reads enough still written (inr (inl s)) =
-    inr (s.named ∙ ap status_of (no_memory work input s.refusal bytes told reads enough still s.stops))
-answered_or_no_memory work status input output bytes told reads enough still written (inr (inr cut)) = absurd (written cut.failed)
+answers_end : {I : Type 0} (duty : Duty) (status : Status) (text : List ℕ) (input : Change I) → Answers duty status text input → IsAnswered status
+answers_end (Reads work) status text input h = h.ended
+answers_end (Writes own) status text input h = subst IsAnswered (sym h.ended) tt
+
+-- the same of all three ways in which a command ends
+answered_or_no_memory : {I O : Type 0} (duty : Duty) (status : Status) (input : Change I) (output : Change O) →
+    ((refusal : Refusal) → Stops duty input refusal → refusal ≡ refusals.NoMemory) → (IsFailed output → ⊥) →
+    Ends duty status input output → IsAnswered status ⊎ (status ≡ statuses.NoMemory)
+answered_or_no_memory duty status input output only written (inl whole) = inl (answers_end duty status whole.text input whole.answers)
+answered_or_no_memory duty status input output only written (inr (inl s)) = inr (s.named ∙ ap status_of (only s.refusal s.stops))
+answered_or_no_memory duty status input output only written (inr (inr cut)) = absurd (written cut.failed)
 
 kept_outcome : {E : Type 0} (status ended : Status) (faults : Change E) → IsReported status ended faults → (IsFailed faults → ⊥) →
     IsAnswered status ⊎ (status ≡ statuses.NoMemory) → IsAnswered ended ⊎ (ended ≡ statuses.NoMemory)
@@ -111,9 +115,17 @@ kept_outcome status ended faults reported still outcome = elim reported.line [
 ]
 
 -- where there was all that the command needs, there is an answer, or no memory
+ended_complete : {I O E : Type 0} (duty : Duty) (status ended : Status) (input : Change I) (output : Change O) (faults : Change E) →
+    Ends duty status input output → IsReported status ended faults → IsComplete duty ended input output faults
+ended_complete (Reads work) status ended input output faults ends reported = with_some (input.told input.old) _ (λ bytes told reads enough still written reporting.
+    kept_outcome status ended faults reported reporting
+    (answered_or_no_memory (Reads work) status input output (λ refusal h. no_memory work input refusal bytes told reads enough still h) written ends))
+ended_complete (Writes own) status ended input output faults ends reported = λ written reporting.
+    kept_outcome status ended faults reported reporting
+    (answered_or_no_memory (Writes own) status input output (λ refusal h. h.1) written ends)
+
 pub completed : {I O E : Type 0} (said : Option Command) (status ended : Status) (input : Change I) (output : Change O) (faults : Change E) →
     IsRun said status input output → IsReported status ended faults →
-    (c : Command) → said ≡ Some c → IsComplete (work_of c) ended input output faults
-completed said status ended input output faults ran reported c is = with_some (input.told input.old) _ (λ bytes told reads enough still written reporting.
-    kept_outcome status ended faults reported reporting
-    (answered_or_no_memory (work_of c) status input output bytes told reads enough still written (said_ends said c status input output is ran)))
+    (c : Command) → said ≡ Some c → IsComplete (duty_of c) ended input output faults
+completed said status ended input output faults ran reported c is =
+    ended_complete (duty_of c) status ended input output faults (said_ends said c status input output is ran) reported

@@ -9,7 +9,7 @@ use Rattle.pq_cli.specs.declared.command.Branching.{Branching}
 use Rattle.pq_cli.specs.declared.command.Kind.{Kind}
 use Rattle.pq_cli.specs.declared.command.Which.{Which}
 use Rattle.pq_cli.specs.declared.words.settings.Settings.{Settings}
-use Rattle.pq_cli.specs.Words.{◌>>=◌, once, kind_of, which_of, number_in, branching_of, with_kind, with_queue, with_workers, with_nodes, with_capacity, with_branching, with_option, with_lone, with_last, with_body, with_split, after_two, unless_split, behind_dashes, split_at_equals, pair_name, settings_from}
+use Rattle.pq_cli.specs.Words.{◌>>=◌, once, kind_of, which_of, number_in, branching_of, with_kind, with_queue, with_workers, with_nodes, with_capacity, with_branching, with_seed, with_size, with_option, with_lone, with_last, with_body, with_split, after_two, unless_split, behind_dashes, split_at_equals, pair_name, settings_from}
 use Rattle.pq_cli.specs.Sayings.{Saying, Named, Valued, HasNoEquals, IsOption, Say, named, values_of, Becomes, IsOptionName, AreSettings, AreSaid}
 use Rattle.pq_cli.proofs.WordSteps.{lone_step, pair_step}
 
@@ -124,44 +124,46 @@ with_all said (saying ∷ sayings) = with_saying said saying >>= λ t. with_all 
 
 -- the settings that the things said give
 
-made : Option Kind → Option Which → Option ℕ → Option ℕ → Option ℕ → Option Branching → Settings
-made k q w n c b = record { kind = k; queue = q; workers = w; nodes = n; capacity = c; branching = b }
+made : Option Kind → Option Which → Option ℕ → Option ℕ → Option ℕ → Option Branching → Option ℕ → Option ℕ → Settings
+made k q w n c b d z = record { kind = k; queue = q; workers = w; nodes = n; capacity = c; branching = b; seed = d; size = z }
 
-same_settings : (a b : Settings) → a.kind ≡ b.kind → a.queue ≡ b.queue → a.workers ≡ b.workers → a.nodes ≡ b.nodes → a.capacity ≡ b.capacity → a.branching ≡ b.branching → a ≡ b
+same_settings : (a b : Settings) → a.kind ≡ b.kind → a.queue ≡ b.queue → a.workers ≡ b.workers → a.nodes ≡ b.nodes → a.capacity ≡ b.capacity → a.branching ≡ b.branching → a.seed ≡ b.seed → a.size ≡ b.size → a ≡ b
 unfolding made
-same_settings a b k q w n c r =
-    ap (λ x. made x a.queue a.workers a.nodes a.capacity a.branching) k
-    ∙ ap (λ x. made b.kind x a.workers a.nodes a.capacity a.branching) q
-    ∙ ap (λ x. made b.kind b.queue x a.nodes a.capacity a.branching) w
-    ∙ ap (λ x. made b.kind b.queue b.workers x a.capacity a.branching) n
-    ∙ ap (λ x. made b.kind b.queue b.workers b.nodes x a.branching) c
-    ∙ ap (λ x. made b.kind b.queue b.workers b.nodes b.capacity x) r
+same_settings a b k q w n c r d z =
+    ap (λ x. made x a.queue a.workers a.nodes a.capacity a.branching a.seed a.size) k
+    ∙ ap (λ x. made b.kind x a.workers a.nodes a.capacity a.branching a.seed a.size) q
+    ∙ ap (λ x. made b.kind b.queue x a.nodes a.capacity a.branching a.seed a.size) w
+    ∙ ap (λ x. made b.kind b.queue b.workers x a.capacity a.branching a.seed a.size) n
+    ∙ ap (λ x. made b.kind b.queue b.workers b.nodes x a.branching a.seed a.size) c
+    ∙ ap (λ x. made b.kind b.queue b.workers b.nodes b.capacity x a.seed a.size) r
+    ∙ ap (λ x. made b.kind b.queue b.workers b.nodes b.capacity b.branching x a.size) d
+    ∙ ap (λ x. made b.kind b.queue b.workers b.nodes b.capacity b.branching b.seed x) z
 
-choose : {A : Type 0} (b1 b2 b3 b4 b5 : Bool) (x1 x2 x3 x4 x5 : Option A) (y : A) →
-    (if b1 then x1 else if b2 then x2 else if b3 then x3 else if b4 then x4 else if b5 then x5 else None) ≡ Some y →
-    ((b1 ≡ true) × (x1 ≡ Some y)) ⊎ (((b2 ≡ true) × (x2 ≡ Some y)) ⊎ (((b3 ≡ true) × (x3 ≡ Some y))
-    ⊎ (((b4 ≡ true) × (x4 ≡ Some y)) ⊎ ((b5 ≡ true) × (x5 ≡ Some y)))))
-choose true b2 b3 b4 b5 x1 x2 x3 x4 x5 y h = inl (refl, h)
-choose false true b3 b4 b5 x1 x2 x3 x4 x5 y h = inr (inl (refl, h))
-choose false false true b4 b5 x1 x2 x3 x4 x5 y h = inr (inr (inl (refl, h)))
-choose false false false true b5 x1 x2 x3 x4 x5 y h = inr (inr (inr (inl (refl, h))))
-choose false false false false true x1 x2 x3 x4 x5 y h = inr (inr (inr (inr (refl, h))))
-choose false false false false false x1 x2 x3 x4 x5 y h = absurd (cc)
+choose : {A : Type 0} (b1 b2 b3 b4 b5 b6 b7 : Bool) (x1 x2 x3 x4 x5 x6 x7 : Option A) (y : A) →
+    (if b1 then x1 else if b2 then x2 else if b3 then x3 else if b4 then x4 else if b5 then x5 else if b6 then x6 else if b7 then x7 else None) ≡ Some y →
+    ((b1 ≡ true) × (x1 ≡ Some y)) ⊎ (((b2 ≡ true) × (x2 ≡ Some y)) ⊎ (((b3 ≡ true) × (x3 ≡ Some y)) ⊎ (((b4 ≡ true) × (x4 ≡ Some y)) ⊎ (((b5 ≡ true) × (x5 ≡ Some y)) ⊎ (((b6 ≡ true) × (x6 ≡ Some y)) ⊎ (((b7 ≡ true) × (x7 ≡ Some y))))))))
+choose true b2 b3 b4 b5 b6 b7 x1 x2 x3 x4 x5 x6 x7 y h = inl (refl, h)
+choose false true b3 b4 b5 b6 b7 x1 x2 x3 x4 x5 x6 x7 y h = inr (inl (refl, h))
+choose false false true b4 b5 b6 b7 x1 x2 x3 x4 x5 x6 x7 y h = inr (inr (inl (refl, h)))
+choose false false false true b5 b6 b7 x1 x2 x3 x4 x5 x6 x7 y h = inr (inr (inr (inl (refl, h))))
+choose false false false false true b6 b7 x1 x2 x3 x4 x5 x6 x7 y h = inr (inr (inr (inr (inl (refl, h)))))
+choose false false false false false true b7 x1 x2 x3 x4 x5 x6 x7 y h = inr (inr (inr (inr (inr (inl (refl, h))))))
+choose false false false false false false true x1 x2 x3 x4 x5 x6 x7 y h = inr (inr (inr (inr (inr (inr ((refl, h)))))))
+choose false false false false false false false x1 x2 x3 x4 x5 x6 x7 y h = absurd (cc)
 
--- an option is one of the five
+-- an option is one of those that there are
 option_is : (said t : Settings) (name value : List ℕ) → with_option said name value ≡ Some t →
-    ((name ≡ codes "queue") × (with_queue said value ≡ Some t)) ⊎ (((name ≡ codes "workers") × (with_workers said value ≡ Some t))
-    ⊎ (((name ≡ codes "nodes") × (with_nodes said value ≡ Some t)) ⊎ (((name ≡ codes "capacity") × (with_capacity said value ≡ Some t))
-    ⊎ ((name ≡ codes "branching") × (with_branching said value ≡ Some t)))))
+    ((name ≡ codes "queue") × (with_queue said value ≡ Some t)) ⊎ (((name ≡ codes "workers") × (with_workers said value ≡ Some t)) ⊎ (((name ≡ codes "nodes") × (with_nodes said value ≡ Some t)) ⊎ (((name ≡ codes "capacity") × (with_capacity said value ≡ Some t)) ⊎ (((name ≡ codes "branching") × (with_branching said value ≡ Some t)) ⊎ (((name ≡ codes "seed") × (with_seed said value ≡ Some t)) ⊎ (((name ≡ codes "size") × (with_size said value ≡ Some t))))))))
 unfolding with_option
-option_is said t name value h = elim (choose (bytes_eq name (codes "queue")) (bytes_eq name (codes "workers")) (bytes_eq name (codes "nodes"))
-    (bytes_eq name (codes "capacity")) (bytes_eq name (codes "branching"))
-    (with_queue said value) (with_workers said value) (with_nodes said value) (with_capacity said value) (with_branching said value) t h) [
+option_is said t name value h = elim (choose (bytes_eq name (codes "queue")) (bytes_eq name (codes "workers")) (bytes_eq name (codes "nodes")) (bytes_eq name (codes "capacity")) (bytes_eq name (codes "branching")) (bytes_eq name (codes "seed")) (bytes_eq name (codes "size"))
+    (with_queue said value) (with_workers said value) (with_nodes said value) (with_capacity said value) (with_branching said value) (with_seed said value) (with_size said value) t h) [
       | inl a ↦ inl (same_word name _ a.0, a.1)
       | inr (inl a) ↦ inr (inl (same_word name _ a.0, a.1))
       | inr (inr (inl a)) ↦ inr (inr (inl (same_word name _ a.0, a.1)))
       | inr (inr (inr (inl a))) ↦ inr (inr (inr (inl (same_word name _ a.0, a.1))))
-      | inr (inr (inr (inr a))) ↦ inr (inr (inr (inr (same_word name _ a.0, a.1))))
+      | inr (inr (inr (inr (inl a)))) ↦ inr (inr (inr (inr (inl (same_word name _ a.0, a.1)))))
+      | inr (inr (inr (inr (inr (inl a))))) ↦ inr (inr (inr (inr (inr (inl (same_word name _ a.0, a.1))))))
+      | inr (inr (inr (inr (inr (inr (a)))))) ↦ inr (inr (inr (inr (inr (inr ((same_word name _ a.0, a.1)))))))
     ]
 
 said_kind : (said t s : Settings) (word : List ℕ) (sayings : List Saying) → with_kind said word ≡ Some t → AreSettings sayings t s → AreSettings (Named word ∷ sayings) said s
@@ -169,7 +171,7 @@ unfolding with_kind
 said_kind said t s word sayings h more =
     let g = given (kind_of word) said.kind (λ k. record said { kind = k }) t h in
     let m = subst (λ x. AreSettings sayings x s) g.3 more in
-    record { kind = becomes_more kind_of word (named sayings) said.kind s.kind g.1 g.0 g.2 m.kind; queue = m.queue; workers = m.workers; nodes = m.nodes; capacity = m.capacity; branching = m.branching; known = m.known }
+    record { kind = becomes_more kind_of word (named sayings) said.kind s.kind g.1 g.0 g.2 m.kind; queue = m.queue; workers = m.workers; nodes = m.nodes; capacity = m.capacity; branching = m.branching; seed = m.seed; size = m.size; known = m.known }
 
 said_queue : (said t s : Settings) (name value : List ℕ) (sayings : List Saying) → name ≡ codes "queue" → with_queue said value ≡ Some t → AreSettings sayings t s → AreSettings (Valued name value ∷ sayings) said s
 unfolding with_queue
@@ -177,7 +179,7 @@ said_queue said t s name value sayings is h more =
     let g = given (which_of value) said.queue (λ k. record said { queue = k }) t h in
     let m = subst (λ x. AreSettings sayings x s) g.3 more in
     subst (λ n. AreSettings (Valued n value ∷ sayings) said s) (sym is)
-    (record { kind = m.kind; queue = becomes_more which_of value (values_of (codes "queue") sayings) said.queue s.queue g.1 g.0 g.2 m.queue; workers = m.workers; nodes = m.nodes; capacity = m.capacity; branching = m.branching; known = (inl refl, m.known) })
+    (record { kind = m.kind; queue = becomes_more which_of value (values_of (codes "queue") sayings) said.queue s.queue g.1 g.0 g.2 m.queue; workers = m.workers; nodes = m.nodes; capacity = m.capacity; branching = m.branching; seed = m.seed; size = m.size; known = (inl refl, m.known) })
 
 said_workers : (said t s : Settings) (name value : List ℕ) (sayings : List Saying) → name ≡ codes "workers" → with_workers said value ≡ Some t → AreSettings sayings t s → AreSettings (Valued name value ∷ sayings) said s
 unfolding with_workers
@@ -185,7 +187,7 @@ said_workers said t s name value sayings is h more =
     let g = given (number_in value) said.workers (λ k. record said { workers = k }) t h in
     let m = subst (λ x. AreSettings sayings x s) g.3 more in
     subst (λ n. AreSettings (Valued n value ∷ sayings) said s) (sym is)
-    (record { kind = m.kind; queue = m.queue; workers = becomes_more number_in value (values_of (codes "workers") sayings) said.workers s.workers g.1 g.0 g.2 m.workers; nodes = m.nodes; capacity = m.capacity; branching = m.branching; known = (inr (inl refl), m.known) })
+    (record { kind = m.kind; queue = m.queue; workers = becomes_more number_in value (values_of (codes "workers") sayings) said.workers s.workers g.1 g.0 g.2 m.workers; nodes = m.nodes; capacity = m.capacity; branching = m.branching; seed = m.seed; size = m.size; known = (inr (inl refl), m.known) })
 
 said_nodes : (said t s : Settings) (name value : List ℕ) (sayings : List Saying) → name ≡ codes "nodes" → with_nodes said value ≡ Some t → AreSettings sayings t s → AreSettings (Valued name value ∷ sayings) said s
 unfolding with_nodes
@@ -193,7 +195,7 @@ said_nodes said t s name value sayings is h more =
     let g = given (number_in value) said.nodes (λ k. record said { nodes = k }) t h in
     let m = subst (λ x. AreSettings sayings x s) g.3 more in
     subst (λ n. AreSettings (Valued n value ∷ sayings) said s) (sym is)
-    (record { kind = m.kind; queue = m.queue; workers = m.workers; nodes = becomes_more number_in value (values_of (codes "nodes") sayings) said.nodes s.nodes g.1 g.0 g.2 m.nodes; capacity = m.capacity; branching = m.branching; known = (inr (inr (inl refl)), m.known) })
+    (record { kind = m.kind; queue = m.queue; workers = m.workers; nodes = becomes_more number_in value (values_of (codes "nodes") sayings) said.nodes s.nodes g.1 g.0 g.2 m.nodes; capacity = m.capacity; branching = m.branching; seed = m.seed; size = m.size; known = (inr (inr (inl refl)), m.known) })
 
 said_capacity : (said t s : Settings) (name value : List ℕ) (sayings : List Saying) → name ≡ codes "capacity" → with_capacity said value ≡ Some t → AreSettings sayings t s → AreSettings (Valued name value ∷ sayings) said s
 unfolding with_capacity
@@ -201,7 +203,7 @@ said_capacity said t s name value sayings is h more =
     let g = given (number_in value) said.capacity (λ k. record said { capacity = k }) t h in
     let m = subst (λ x. AreSettings sayings x s) g.3 more in
     subst (λ n. AreSettings (Valued n value ∷ sayings) said s) (sym is)
-    (record { kind = m.kind; queue = m.queue; workers = m.workers; nodes = m.nodes; capacity = becomes_more number_in value (values_of (codes "capacity") sayings) said.capacity s.capacity g.1 g.0 g.2 m.capacity; branching = m.branching; known = (inr (inr (inr (inl refl))), m.known) })
+    (record { kind = m.kind; queue = m.queue; workers = m.workers; nodes = m.nodes; capacity = becomes_more number_in value (values_of (codes "capacity") sayings) said.capacity s.capacity g.1 g.0 g.2 m.capacity; branching = m.branching; seed = m.seed; size = m.size; known = (inr (inr (inr (inl refl))), m.known) })
 
 said_branching : (said t s : Settings) (name value : List ℕ) (sayings : List Saying) → name ≡ codes "branching" → with_branching said value ≡ Some t → AreSettings sayings t s → AreSettings (Valued name value ∷ sayings) said s
 unfolding with_branching
@@ -209,7 +211,23 @@ said_branching said t s name value sayings is h more =
     let g = given (branching_of value) said.branching (λ k. record said { branching = k }) t h in
     let m = subst (λ x. AreSettings sayings x s) g.3 more in
     subst (λ n. AreSettings (Valued n value ∷ sayings) said s) (sym is)
-    (record { kind = m.kind; queue = m.queue; workers = m.workers; nodes = m.nodes; capacity = m.capacity; branching = becomes_more branching_of value (values_of (codes "branching") sayings) said.branching s.branching g.1 g.0 g.2 m.branching; known = (inr (inr (inr (inr refl))), m.known) })
+    (record { kind = m.kind; queue = m.queue; workers = m.workers; nodes = m.nodes; capacity = m.capacity; branching = becomes_more branching_of value (values_of (codes "branching") sayings) said.branching s.branching g.1 g.0 g.2 m.branching; seed = m.seed; size = m.size; known = (inr (inr (inr (inr (inl refl)))), m.known) })
+
+said_seed : (said t s : Settings) (name value : List ℕ) (sayings : List Saying) → name ≡ codes "seed" → with_seed said value ≡ Some t → AreSettings sayings t s → AreSettings (Valued name value ∷ sayings) said s
+unfolding with_seed
+said_seed said t s name value sayings is h more =
+    let g = given (number_in value) said.seed (λ k. record said { seed = k }) t h in
+    let m = subst (λ x. AreSettings sayings x s) g.3 more in
+    subst (λ n. AreSettings (Valued n value ∷ sayings) said s) (sym is)
+    (record { kind = m.kind; queue = m.queue; workers = m.workers; nodes = m.nodes; capacity = m.capacity; branching = m.branching; seed = becomes_more number_in value (values_of (codes "seed") sayings) said.seed s.seed g.1 g.0 g.2 m.seed; size = m.size; known = (inr (inr (inr (inr (inr (inl refl))))), m.known) })
+
+said_size : (said t s : Settings) (name value : List ℕ) (sayings : List Saying) → name ≡ codes "size" → with_size said value ≡ Some t → AreSettings sayings t s → AreSettings (Valued name value ∷ sayings) said s
+unfolding with_size
+said_size said t s name value sayings is h more =
+    let g = given (number_in value) said.size (λ k. record said { size = k }) t h in
+    let m = subst (λ x. AreSettings sayings x s) g.3 more in
+    subst (λ n. AreSettings (Valued n value ∷ sayings) said s) (sym is)
+    (record { kind = m.kind; queue = m.queue; workers = m.workers; nodes = m.nodes; capacity = m.capacity; branching = m.branching; seed = m.seed; size = becomes_more number_in value (values_of (codes "size") sayings) said.size s.size g.1 g.0 g.2 m.size; known = (inr (inr (inr (inr (inr (inr (refl)))))), m.known) })
 
 said_option : (said t s : Settings) (name value : List ℕ) (sayings : List Saying) → with_option said name value ≡ Some t → AreSettings sayings t s → AreSettings (Valued name value ∷ sayings) said s
 said_option said t s name value sayings h more = elim (option_is said t name value h) [
@@ -217,11 +235,13 @@ said_option said t s name value sayings h more = elim (option_is said t name val
   | inr (inl a) ↦ said_workers said t s name value sayings a.0 a.1 more
   | inr (inr (inl a)) ↦ said_nodes said t s name value sayings a.0 a.1 more
   | inr (inr (inr (inl a))) ↦ said_capacity said t s name value sayings a.0 a.1 more
-  | inr (inr (inr (inr a))) ↦ said_branching said t s name value sayings a.0 a.1 more
+  | inr (inr (inr (inr (inl a)))) ↦ said_branching said t s name value sayings a.0 a.1 more
+  | inr (inr (inr (inr (inr (inl a))))) ↦ said_seed said t s name value sayings a.0 a.1 more
+  | inr (inr (inr (inr (inr (inr (a)))))) ↦ said_size said t s name value sayings a.0 a.1 more
 ]
 
 all_are_settings : (said s : Settings) (sayings : List Saying) → with_all said sayings ≡ Some s → AreSettings sayings said s
-all_are_settings said s [] h = record { kind = cc; queue = cc; workers = cc; nodes = cc; capacity = cc; branching = cc; known = tt }
+all_are_settings said s [] h = record { kind = cc; queue = cc; workers = cc; nodes = cc; capacity = cc; branching = cc; seed = cc; size = cc; known = tt }
 all_are_settings said s (Named word ∷ sayings) h =
     let b = bound_is (with_kind said word) (λ t. with_all t sayings) s h in
     said_kind said b.0 s word sayings b.1 (all_are_settings b.0 s sayings b.2)
@@ -237,7 +257,7 @@ kind_said said s word sayings a =
     let b = becomes_less kind_of word (named sayings) said.kind s.kind a.kind in (
       record said { kind = Some b.1 },
       giving (kind_of word) said.kind (λ k. record said { kind = k }) b.1 b.0 b.2,
-      record { kind = b.3; queue = a.queue; workers = a.workers; nodes = a.nodes; capacity = a.capacity; branching = a.branching; known = a.known },
+      record { kind = b.3; queue = a.queue; workers = a.workers; nodes = a.nodes; capacity = a.capacity; branching = a.branching; seed = a.seed; size = a.size; known = a.known },
     )
 
 queue_said : (said s : Settings) (value : List ℕ) (sayings : List Saying) → AreSettings (Valued (codes "queue") value ∷ sayings) said s → (t : Settings) × (with_option said (codes "queue") value ≡ Some t) × AreSettings sayings t s
@@ -246,7 +266,7 @@ queue_said said s value sayings a =
     let b = becomes_less which_of value (values_of (codes "queue") sayings) said.queue s.queue a.queue in (
       record said { queue = Some b.1 },
       giving (which_of value) said.queue (λ k. record said { queue = k }) b.1 b.0 b.2,
-      record { kind = a.kind; queue = b.3; workers = a.workers; nodes = a.nodes; capacity = a.capacity; branching = a.branching; known = a.known.1 },
+      record { kind = a.kind; queue = b.3; workers = a.workers; nodes = a.nodes; capacity = a.capacity; branching = a.branching; seed = a.seed; size = a.size; known = a.known.1 },
     )
 
 workers_said : (said s : Settings) (value : List ℕ) (sayings : List Saying) → AreSettings (Valued (codes "workers") value ∷ sayings) said s → (t : Settings) × (with_option said (codes "workers") value ≡ Some t) × AreSettings sayings t s
@@ -255,7 +275,7 @@ workers_said said s value sayings a =
     let b = becomes_less number_in value (values_of (codes "workers") sayings) said.workers s.workers a.workers in (
       record said { workers = Some b.1 },
       giving (number_in value) said.workers (λ k. record said { workers = k }) b.1 b.0 b.2,
-      record { kind = a.kind; queue = a.queue; workers = b.3; nodes = a.nodes; capacity = a.capacity; branching = a.branching; known = a.known.1 },
+      record { kind = a.kind; queue = a.queue; workers = b.3; nodes = a.nodes; capacity = a.capacity; branching = a.branching; seed = a.seed; size = a.size; known = a.known.1 },
     )
 
 nodes_said : (said s : Settings) (value : List ℕ) (sayings : List Saying) → AreSettings (Valued (codes "nodes") value ∷ sayings) said s → (t : Settings) × (with_option said (codes "nodes") value ≡ Some t) × AreSettings sayings t s
@@ -264,7 +284,7 @@ nodes_said said s value sayings a =
     let b = becomes_less number_in value (values_of (codes "nodes") sayings) said.nodes s.nodes a.nodes in (
       record said { nodes = Some b.1 },
       giving (number_in value) said.nodes (λ k. record said { nodes = k }) b.1 b.0 b.2,
-      record { kind = a.kind; queue = a.queue; workers = a.workers; nodes = b.3; capacity = a.capacity; branching = a.branching; known = a.known.1 },
+      record { kind = a.kind; queue = a.queue; workers = a.workers; nodes = b.3; capacity = a.capacity; branching = a.branching; seed = a.seed; size = a.size; known = a.known.1 },
     )
 
 capacity_said : (said s : Settings) (value : List ℕ) (sayings : List Saying) → AreSettings (Valued (codes "capacity") value ∷ sayings) said s → (t : Settings) × (with_option said (codes "capacity") value ≡ Some t) × AreSettings sayings t s
@@ -273,7 +293,7 @@ capacity_said said s value sayings a =
     let b = becomes_less number_in value (values_of (codes "capacity") sayings) said.capacity s.capacity a.capacity in (
       record said { capacity = Some b.1 },
       giving (number_in value) said.capacity (λ k. record said { capacity = k }) b.1 b.0 b.2,
-      record { kind = a.kind; queue = a.queue; workers = a.workers; nodes = a.nodes; capacity = b.3; branching = a.branching; known = a.known.1 },
+      record { kind = a.kind; queue = a.queue; workers = a.workers; nodes = a.nodes; capacity = b.3; branching = a.branching; seed = a.seed; size = a.size; known = a.known.1 },
     )
 
 branching_said : (said s : Settings) (value : List ℕ) (sayings : List Saying) → AreSettings (Valued (codes "branching") value ∷ sayings) said s → (t : Settings) × (with_option said (codes "branching") value ≡ Some t) × AreSettings sayings t s
@@ -282,7 +302,25 @@ branching_said said s value sayings a =
     let b = becomes_less branching_of value (values_of (codes "branching") sayings) said.branching s.branching a.branching in (
       record said { branching = Some b.1 },
       giving (branching_of value) said.branching (λ k. record said { branching = k }) b.1 b.0 b.2,
-      record { kind = a.kind; queue = a.queue; workers = a.workers; nodes = a.nodes; capacity = a.capacity; branching = b.3; known = a.known.1 },
+      record { kind = a.kind; queue = a.queue; workers = a.workers; nodes = a.nodes; capacity = a.capacity; branching = b.3; seed = a.seed; size = a.size; known = a.known.1 },
+    )
+
+seed_said : (said s : Settings) (value : List ℕ) (sayings : List Saying) → AreSettings (Valued (codes "seed") value ∷ sayings) said s → (t : Settings) × (with_option said (codes "seed") value ≡ Some t) × AreSettings sayings t s
+unfolding with_seed with_option
+seed_said said s value sayings a =
+    let b = becomes_less number_in value (values_of (codes "seed") sayings) said.seed s.seed a.seed in (
+      record said { seed = Some b.1 },
+      giving (number_in value) said.seed (λ k. record said { seed = k }) b.1 b.0 b.2,
+      record { kind = a.kind; queue = a.queue; workers = a.workers; nodes = a.nodes; capacity = a.capacity; branching = a.branching; seed = b.3; size = a.size; known = a.known.1 },
+    )
+
+size_said : (said s : Settings) (value : List ℕ) (sayings : List Saying) → AreSettings (Valued (codes "size") value ∷ sayings) said s → (t : Settings) × (with_option said (codes "size") value ≡ Some t) × AreSettings sayings t s
+unfolding with_size with_option
+size_said said s value sayings a =
+    let b = becomes_less number_in value (values_of (codes "size") sayings) said.size s.size a.size in (
+      record said { size = Some b.1 },
+      giving (number_in value) said.size (λ k. record said { size = k }) b.1 b.0 b.2,
+      record { kind = a.kind; queue = a.queue; workers = a.workers; nodes = a.nodes; capacity = a.capacity; branching = a.branching; seed = a.seed; size = b.3; known = a.known.1 },
     )
 
 option_named : (said s : Settings) (name value : List ℕ) (sayings : List Saying) → AreSettings (Valued name value ∷ sayings) said s → IsOptionName name →
@@ -294,7 +332,9 @@ option_named said s name value sayings a is =
       | inr (inl e) ↦ subst Goal (sym e) (workers_said said s value sayings) a
       | inr (inr (inl e)) ↦ subst Goal (sym e) (nodes_said said s value sayings) a
       | inr (inr (inr (inl e))) ↦ subst Goal (sym e) (capacity_said said s value sayings) a
-      | inr (inr (inr (inr e))) ↦ subst Goal (sym e) (branching_said said s value sayings) a
+      | inr (inr (inr (inr (inl e)))) ↦ subst Goal (sym e) (branching_said said s value sayings) a
+      | inr (inr (inr (inr (inr (inl e))))) ↦ subst Goal (sym e) (seed_said said s value sayings) a
+      | inr (inr (inr (inr (inr (inr (e)))))) ↦ subst Goal (sym e) (size_said said s value sayings) a
     ]
 
 -- one option, whichever it is
@@ -303,7 +343,7 @@ option_said : (said s : Settings) (name value : List ℕ) (sayings : List Saying
 option_said said s name value sayings a = option_named said s name value sayings a a.known.0
 
 settings_are_all : (said s : Settings) (sayings : List Saying) → AreSettings sayings said s → with_all said sayings ≡ Some s
-settings_are_all said s [] a = ap (λ x. Some x) (sym (same_settings s said a.kind a.queue a.workers a.nodes a.capacity a.branching))
+settings_are_all said s [] a = ap (λ x. Some x) (sym (same_settings s said a.kind a.queue a.workers a.nodes a.capacity a.branching a.seed a.size))
 settings_are_all said s (Named word ∷ sayings) a =
     let b = kind_said said s word sayings a in
     binding (with_kind said word) (λ t. with_all t sayings) b.0 s b.1 (settings_are_all b.0 s sayings b.2)

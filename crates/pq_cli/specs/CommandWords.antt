@@ -5,6 +5,7 @@ use Rattle.std.specs.Str.{bytes_eq}
 use Rattle.std.specs.declared.alloc.Global.{Global}
 use Rattle.pq_io.specs.Reading.{is_between}
 use Rattle.pq_model.specs.Limits.{max_capacity}
+use Rattle.inst_text.specs.Limits.{max_items, max_made_shop}
 use Rattle.bb_pool.specs.Limits.{max_nodes}
 use Rattle.pq_cli.specs.declared.command.Kind.{Kind}
 use Rattle.pq_cli.specs.declared.command.Branching.{Branching}
@@ -13,13 +14,13 @@ use Rattle.pq_cli.specs.declared.command.Kind.TheVariants.{Knapsack, Shop}
 use Rattle.pq_cli.specs.declared.command.Which.{Which}
 use Rattle.pq_cli.specs.declared.command.Which.TheVariants.{Plain, Hunt}
 use Rattle.pq_cli.specs.declared.command.Command.{Command}
-use Rattle.pq_cli.specs.declared.command.Command.TheVariants.{Solve, Bound, Check, Prove, Verify, Trace, Audit}
+use Rattle.pq_cli.specs.declared.command.Command.TheVariants.{Solve, Bound, Check, Prove, Verify, Trace, Audit, Make}
 use Rattle.pq_cli.specs.declared.commands.task.Task.{Task}
 use Rattle.pq_cli.specs.declared.commands.task.Task.TheVariants as tasks
 use Rattle.pq_cli.specs.declared.words.reading.WordsRefusal.{WordsRefusal}
 use Rattle.pq_cli.specs.declared.words.reading.WordsRefusal.TheVariants.{BadWords}
 use Rattle.pq_cli.specs.declared.words.settings.Settings.{Settings}
-use Rattle.pq_cli.specs.Words.{◌>>=◌, settings_from, is_unlimited, is_silent}
+use Rattle.pq_cli.specs.Words.{◌>>=◌, option_limit, settings_from, is_unlimited, is_unmade, is_silent}
 
 -- the bytes of each word
 abbrev pub texts : List (String Global) → List (List ℕ)
@@ -55,14 +56,14 @@ solve_from said = do
   workers ← within 1 1 (unwrap_or said.workers 1)
   nodes ← within 1 max_nodes (unwrap_or said.nodes default_nodes)
   capacity ← within workers max_capacity (unwrap_or said.capacity (nodes + workers))
-  Some (Solve kind branching queue workers nodes capacity)
+  if is_unmade said then Some (Solve kind branching queue workers nodes capacity) else None
 
 -- a problem, and for a shop a branching
 unfoldable pub bound_from : Settings → Option Command
 bound_from said = do
   kind ← said.kind
   branching ← branching_for kind said.branching
-  if is_unlimited said then Some (Bound kind branching) else None
+  if is_unlimited said && is_unmade said then Some (Bound kind branching) else None
 
 -- a problem, and no option
 unfoldable pub kind_alone : Settings → Option Kind
@@ -100,15 +101,37 @@ default_capacity = 1024
 unfoldable pub trace_from : Settings → Option Command
 trace_from said = do
   capacity ← within 1 max_capacity (unwrap_or said.capacity default_capacity)
-  if is_none said.kind && (is_none said.branching && (is_none said.workers && is_none said.nodes))
+  if is_none said.kind && (is_none said.branching && (is_none said.workers && (is_none said.nodes && is_unmade said)))
       then Some (Trace (unwrap_or said.queue Hunt) capacity) else None
 
 -- nothing
 unfoldable pub audit_from : Settings → Option Command
 audit_from said = if is_none said.kind && is_silent said then Some Audit else None
 
+-- how many items of a knapsack are made, or how many jobs and machines of a shop
+abbrev pub size_for : Kind → Option ℕ → Option ℕ
+size_for Knapsack said = within 0 max_items (unwrap_or said 100)
+size_for Shop said = within 1 max_made_shop (unwrap_or said 6)
+
+-- a problem, a seed and a size
+unfoldable pub make_from : Settings → Option Command
+make_from said = do
+  kind ← said.kind
+  seed ← within 0 option_limit (unwrap_or said.seed 0)
+  size ← size_for kind said.size
+  if is_none said.branching && is_unlimited said then Some (Make kind seed size) else None
+
 abbrev pub nothing : Settings
-nothing = record { kind = None; branching = None; queue = None; workers = None; nodes = None; capacity = None }
+nothing = record {
+  kind = None;
+  branching = None;
+  queue = None;
+  workers = None;
+  nodes = None;
+  capacity = None;
+  seed = None;
+  size = None;
+}
 
 -- The command that the words say; None where no command reads them.
 unfoldable pub command_of : List (List ℕ) → Option Command
@@ -121,6 +144,7 @@ command_of (name ∷ words) =
     else if bytes_eq name (codes "verify") then settings_from nothing words >>= verify_from
     else if bytes_eq name (codes "trace") then settings_from nothing words >>= trace_from
     else if bytes_eq name (codes "audit") then settings_from nothing words >>= audit_from
+    else if bytes_eq name (codes "make") then settings_from nothing words >>= make_from
     else None
 
 -- whether a command is one that needs no threads
@@ -147,6 +171,11 @@ pub record AreLimits (n c : ℕ) : Type 0 where
   pub nodes : (1 ≤ n) × (n ≤ max_nodes)
   pub capacity : (1 ≤ c) × (c ≤ max_capacity)
 
+-- the size that something made of this kind may have
+abbrev pub IsMadeSize : Kind → ℕ → Type 0
+IsMadeSize Knapsack size = size ≤ max_items
+IsMadeSize Shop size = (1 ≤ size) × (size ≤ max_made_shop)
+
 -- the same of what is to be done with a problem
 abbrev pub HasTaskLimits : Task → Type 0
 HasTaskLimits (tasks.Solve nodes capacity) = AreLimits nodes capacity
@@ -161,3 +190,4 @@ HasLimits (Trace queue capacity) = (1 ≤ capacity) × (capacity ≤ max_capacit
 HasLimits (Prove queue workers nodes capacity) = AreLimits nodes capacity
 HasLimits Verify = Unit {0}
 HasLimits Audit = Unit {0}
+HasLimits (Make kind seed size) = IsMadeSize kind size

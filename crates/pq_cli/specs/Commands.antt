@@ -1,14 +1,18 @@
 -- What each command is to do.
-use Rattle.std.specs.Prelude.{ℕ, ◌≡◌, Result, Ok, Err, Some, None}
+use Rattle.std.specs.Prelude.{ℕ, ◌≡◌, List, Result, Ok, Err, Some, None}
 use Rattle.pq_io.specs.declared.text.fault.BadInput.{BadInput}
 use Rattle.pq_tape.specs.HistoryReading.{history_of}
-use Rattle.inst_text.specs.Knapsack.{knapsack_of}
+use Rattle.inst_text.specs.Generator.{made_knapsack, made_shop}
+use Rattle.inst_text.specs.Knapsack.{knapsack_of, knapsack_text}
+use Rattle.inst_text.specs.Shop.{shop_text}
 use Rattle.inst_text.specs.Script.{script_of}
 use Rattle.bb_proof.specs.Texts.{proof_of}
 use Rattle.bb_knap.specs.Branching as knapsacks
 use Rattle.bb_problem.specs.Meaning.{Meaning}
 use Rattle.bb_problem.specs.Tree.{needed}
 use Rattle.pq_cli.specs.declared.command.Branching.TheVariants.{Dispatch}
+use Rattle.pq_cli.specs.declared.command.Kind.{Kind}
+use Rattle.pq_cli.specs.declared.command.Kind.TheVariants.{Knapsack, Shop}
 use Rattle.pq_cli.specs.declared.command.Command.{Command}
 use Rattle.pq_cli.specs.declared.command.Command.TheVariants as commands
 use Rattle.pq_cli.specs.declared.commands.task.Task.{Task}
@@ -20,6 +24,7 @@ use Rattle.pq_cli.specs.Proving.{IsProved, IsProofTooLong, IsVerified}
 use Rattle.pq_cli.specs.Using.{Texts, IsSolved, IsRootBound, IsChecked}
 use Rattle.pq_cli.specs.Problems.{Used, used}
 use Rattle.pq_cli.specs.Work.{Work, fault_in}
+use Rattle.pq_cli.specs.Duties.{Duty, Reads, Writes}
 
 -- how many nodes a search has to make for the instance that was read
 abbrev pub needed_for : {I N P : Type 0} → (I → Meaning N P) → Result I BadInput → ℕ
@@ -107,12 +112,18 @@ task_work meaning texts Check = checking texts
 abbrev pub used_work : Used → Task → Work
 used_work u task = task_work u.meaning u.texts task
 
-abbrev pub work_of : Command → Work
-work_of (commands.Solve kind branching queue workers nodes capacity) =
-    used_work (used kind branching) (Solve nodes capacity)
-work_of (commands.Bound kind branching) = used_work (used kind branching) Bound
-work_of (commands.Check kind) = used_work (used kind Dispatch) Check
-work_of (commands.Trace queue capacity) = tracing (lanes_on queue capacity) capacity
-work_of (commands.Prove queue workers nodes capacity) = proving nodes capacity
-work_of commands.Verify = verifying
-work_of commands.Audit = auditing
+-- the text of an instance of this kind that is made from a seed
+abbrev pub made_text : Kind → ℕ → ℕ → List ℕ
+made_text Knapsack seed size = knapsack_text (made_knapsack seed size)
+made_text Shop seed size = shop_text (made_shop seed size)
+
+abbrev pub duty_of : Command → Duty
+duty_of (commands.Solve kind branching queue workers nodes capacity) =
+    Reads (used_work (used kind branching) (Solve nodes capacity))
+duty_of (commands.Bound kind branching) = Reads (used_work (used kind branching) Bound)
+duty_of (commands.Check kind) = Reads (used_work (used kind Dispatch) Check)
+duty_of (commands.Trace queue capacity) = Reads (tracing (lanes_on queue capacity) capacity)
+duty_of (commands.Prove queue workers nodes capacity) = Reads (proving nodes capacity)
+duty_of commands.Verify = Reads verifying
+duty_of commands.Audit = Reads auditing
+duty_of (commands.Make kind seed size) = Writes (made_text kind seed size)

@@ -7,12 +7,13 @@ pub mod Texts
 pub mod Answers
 pub mod Using
 pub mod Problems
+pub mod Streams
 pub mod Work
+pub mod Duties
 pub mod Auditing
 pub mod Tracing
 pub mod Proving
 pub mod Commands
-pub mod Streams
 pub mod Refusals
 pub mod Reports
 pub mod Runs

@@ -7,7 +7,8 @@ use Rattle.pq_cli.specs.declared.refusal.Refusal.{Refusal}
 use Rattle.pq_cli.specs.declared.refusal.Refusal.TheVariants as refusals
 use Rattle.pq_cli.specs.declared.status.Status.{Status}
 use Rattle.pq_cli.specs.declared.status.Status.TheVariants as statuses
-use Rattle.pq_cli.specs.Commands.{work_of}
+use Rattle.pq_cli.specs.Commands.{duty_of}
+use Rattle.pq_cli.specs.Duties.{Duty, Reads, Writes}
 use Rattle.pq_cli.specs.Refusals.{status_of}
 use Rattle.pq_cli.specs.Reports.{fault_text}
 use Rattle.pq_cli.specs.Statuses.{IsAnswered}
@@ -15,11 +16,21 @@ use Rattle.pq_cli.specs.Streams.{Change, IsSame, IsFailed, WereLeft, IsTaken, Is
 use Rattle.pq_cli.specs.Work.{Work, fault_of, HasEnough, IsLimited, IsFilled}
 
 -- The input held bytes to which this is an answer, and was taken to its end.
-pub record Answers {I : Type 0} (work : Work) (status : Status) (text : List ℕ) (input : Change I) : Type 0 where
+pub record AnswersInput {I : Type 0} (work : Work) (status : Status) (text : List ℕ) (input : Change I) : Type 0 where
   pub bytes : List ℕ
   pub taken : IsTaken input bytes
   pub ended : IsAnswered status
   pub answer : work.IsAnswer bytes status text
+
+-- No input was read: it is as it was. And this is the text.
+pub record AnswersAlone {I : Type 0} (own : List ℕ) (status : Status) (text : List ℕ) (input : Change I) : Type 0 where
+  pub unread : IsSame input
+  pub ended : status ≡ statuses.Ok
+  pub answer : text ≡ own
+
+abbrev pub Answers : {I : Type 0} → Duty → Status → List ℕ → Change I → Type 0
+Answers (Reads work) status text input = AnswersInput work status text input
+Answers (Writes own) status text input = AnswersAlone own status text input
 
 -- The input held bytes that have no reading for the work, with this first fault. It was taken to its end, or to one
 -- byte more than an input may have.
@@ -37,41 +48,46 @@ pub record HeldBytes {I : Type 0} (fact : List ℕ → Type 0) (input : Change I
   pub holds : fact bytes
 
 -- Why the work has no answer to the input. That there is no memory needs no cause.
-abbrev pub Stops : {I : Type 0} → Work → Change I → Refusal → Type 0
-Stops work input (refusals.BadInput fault) = IsFaulty work fault input
-Stops work input (refusals.NodeLimit asked limit) = HeldBytes (λ bytes. IsLimited work bytes asked limit) input
-Stops work input (refusals.Full place) = HeldBytes (λ bytes. IsFilled work bytes place) input
-Stops work input refusals.ReadFault = IsFailed input
-Stops work input refusals.NoMemory = Unit {0}
-Stops work input refusals.ProofLimit = HeldBytes work.IsTooLong input
+abbrev pub StopsWork : {I : Type 0} → Work → Change I → Refusal → Type 0
+StopsWork work input (refusals.BadInput fault) = IsFaulty work fault input
+StopsWork work input (refusals.NodeLimit asked limit) = HeldBytes (λ bytes. IsLimited work bytes asked limit) input
+StopsWork work input (refusals.Full place) = HeldBytes (λ bytes. IsFilled work bytes place) input
+StopsWork work input refusals.ReadFault = IsFailed input
+StopsWork work input refusals.NoMemory = Unit {0}
+StopsWork work input refusals.ProofLimit = HeldBytes work.IsTooLong input
+
+-- Where no input is read, only want of memory stops a command, and the input is as it was.
+abbrev pub Stops : {I : Type 0} → Duty → Change I → Refusal → Type 0
+Stops (Reads work) input refusal = StopsWork work input refusal
+Stops (Writes own) input refusal = IsSame input × (refusal ≡ refusals.NoMemory)
 
 -- The whole answer was written.
-pub record IsWhole {I O : Type 0} (work : Work) (status : Status) (input : Change I) (output : Change O) : Type 0 where
+pub record IsWhole {I O : Type 0} (duty : Duty) (status : Status) (input : Change I) (output : Change O) : Type 0 where
   pub text : List ℕ
-  pub answers : Answers work status text input
+  pub answers : Answers duty status text input
   pub written : IsGained output text
 
 -- There is no answer, and the output is as it was.
-pub record IsStopped {I O : Type 0} (work : Work) (status : Status)
+pub record IsStopped {I O : Type 0} (duty : Duty) (status : Status)
     (input : Change I) (output : Change O) : Type 0 where
   pub refusal : Refusal
   pub named : status ≡ status_of refusal
-  pub stops : Stops work input refusal
+  pub stops : Stops duty input refusal
   pub same : IsSame output
 
 -- There is an answer, a prefix of which was written, and not all of it: writing failed.
-pub record IsCut {I O : Type 0} (work : Work) (status : Status) (input : Change I) (output : Change O) : Type 0 where
+pub record IsCut {I O : Type 0} (duty : Duty) (status : Status) (input : Change I) (output : Change O) : Type 0 where
   pub answered : Status
   pub text : List ℕ
   pub named : status ≡ statuses.WriteFault
-  pub answers : Answers work answered text input
+  pub answers : Answers duty answered text input
   pub written : IsGainedInPart output text
   pub failed : IsFailed output
 
--- The work ended in one of three ways.
-abbrev pub Ends : {I O : Type 0} → Work → Status → Change I → Change O → Type 0
-Ends work status input output =
-    IsWhole work status input output ⊎ (IsStopped work status input output ⊎ IsCut work status input output)
+-- A command ended in one of three ways.
+abbrev pub Ends : {I O : Type 0} → Duty → Status → Change I → Change O → Type 0
+Ends duty status input output =
+    IsWhole duty status input output ⊎ (IsStopped duty status input output ⊎ IsCut duty status input output)
 
 -- No command was said, and input and output are as they were.
 pub record IsUnread {I O : Type 0} (status : Status) (input : Change I) (output : Change O) : Type 0 where
@@ -82,7 +98,7 @@ pub record IsUnread {I O : Type 0} (status : Status) (input : Change I) (output 
 -- What a call came to whose words said this command, or none.
 abbrev pub IsRun : {I O : Type 0} → Option Command → Status → Change I → Change O → Type 0
 IsRun said status input output =
-    MatchOption said (IsUnread status input output) (λ c. Ends (work_of c) status input output)
+    MatchOption said (IsUnread status input output) (λ c. Ends (duty_of c) status input output)
 
 -- The text was written, and the status stays; or a prefix of it was, and writing failed.
 abbrev pub IsWritten : {S : Type 0} → List ℕ → Status → Status → Change S → Type 0
@@ -107,11 +123,13 @@ pub record IsAnsweredWhole {I O : Type 0} (said : Option Command) (status : Stat
     (input : Change I) (output : Change O) : Type 0 where
   pub command : Command
   pub is : said ≡ Some command
-  pub whole : IsWhole (work_of command) status input output
+  pub whole : IsWhole (duty_of command) status input output
 
 -- Where the input has a reading for the work, its limits are enough and no count of faults rose, there is an answer,
--- or no memory.
-abbrev pub IsComplete : {I O E : Type 0} → Work → Status → Change I → Change O → Change E → Type 0
-IsComplete work status input output faults = IfSome (input.told input.old) (λ bytes.
+-- or no memory. Where no input is read, a count that did not rise is enough.
+abbrev pub IsComplete : {I O E : Type 0} → Duty → Status → Change I → Change O → Change E → Type 0
+IsComplete (Reads work) status input output faults = IfSome (input.told input.old) (λ bytes.
     fault_of work bytes ≡ None → HasEnough work bytes →
     ¬ IsFailed input → ¬ IsFailed output → ¬ IsFailed faults → IsAnswered status ⊎ (status ≡ statuses.NoMemory))
+IsComplete (Writes own) status input output faults =
+    ¬ IsFailed output → ¬ IsFailed faults → IsAnswered status ⊎ (status ≡ statuses.NoMemory)

@@ -50,7 +50,7 @@ Becomes read words before after = ⊥
 abbrev pub IsOptionName : List ℕ → Type 0
 IsOptionName name =
     (name ≡ codes "queue") ⊎ ((name ≡ codes "workers") ⊎ ((name ≡ codes "nodes") ⊎ ((name ≡ codes "capacity")
-    ⊎ (name ≡ codes "branching"))))
+    ⊎ ((name ≡ codes "branching") ⊎ ((name ≡ codes "seed") ⊎ (name ≡ codes "size"))))))
 
 -- each option among these is one that there is
 abbrev pub AreKnown : List Saying → Type 0
@@ -66,6 +66,8 @@ pub record AreSettings (sayings : List Saying) (before after : Settings) : Type 
   pub nodes : Becomes number_in (values_of (codes "nodes") sayings) before.nodes after.nodes
   pub capacity : Becomes number_in (values_of (codes "capacity") sayings) before.capacity after.capacity
   pub branching : Becomes branching_of (values_of (codes "branching") sayings) before.branching after.branching
+  pub seed : Becomes number_in (values_of (codes "seed") sayings) before.seed after.seed
+  pub size : Becomes number_in (values_of (codes "size") sayings) before.size after.size
   pub known : AreKnown sayings
 
 -- The words say something, after which the settings are so.

@@ -93,6 +93,18 @@ with_capacity said value = do
   numbers ← once said.capacity number
   Some (record said { capacity = numbers })
 
+unfoldable pub with_seed : Settings → List ℕ → Option Settings
+with_seed said value = do
+  number ← number_in value
+  numbers ← once said.seed number
+  Some (record said { seed = numbers })
+
+unfoldable pub with_size : Settings → List ℕ → Option Settings
+with_size said value = do
+  number ← number_in value
+  numbers ← once said.size number
+  Some (record said { size = numbers })
+
 -- the settings with this option
 unfoldable pub with_option : Settings → List ℕ → List ℕ → Option Settings
 with_option said name value =
@@ -101,6 +113,8 @@ with_option said name value =
     else if bytes_eq name (codes "nodes") then with_nodes said value
     else if bytes_eq name (codes "capacity") then with_capacity said value
     else if bytes_eq name (codes "branching") then with_branching said value
+    else if bytes_eq name (codes "seed") then with_seed said value
+    else if bytes_eq name (codes "size") then with_size said value
     else None
 
 -- what stands behind two dashes; none where a word does not begin with them
@@ -155,6 +169,10 @@ settings_from said (word ∷ value ∷ words) = after_two (pair_name word)
 abbrev pub is_unlimited : Settings → Bool
 is_unlimited said = is_none said.queue && (is_none said.workers && (is_none said.nodes && is_none said.capacity))
 
+-- no option of what is made was said
+abbrev pub is_unmade : Settings → Bool
+is_unmade said = is_none said.seed && is_none said.size
+
 -- no option was said
 abbrev pub is_silent : Settings → Bool
-is_silent said = is_none said.branching && is_unlimited said
+is_silent said = is_none said.branching && (is_unlimited said && is_unmade said)

@@ -69,4 +69,11 @@ pub enum Command {
     Verify,
     /// Reads a history, and says whether a bounded priority multiset could have answered so.
     Audit,
+    /// Writes an instance that is made from a number, and reads nothing.
+    Make {
+        kind: Kind,
+        seed: u32,
+        /// How many items a knapsack has, 0 to 1,024; or how many jobs and machines a shop has, 1 to 32.
+        size: u32,
+    },
 }

@@ -1,12 +1,12 @@
 //! The commands, each from its input to an answer or a refusal. The problem that a command names is chosen here, and
 //! nowhere else.
 
-ghost use Rattle.std.specs.Prelude.{◌≡◌, ◌≤◌, IfOk, IfErr, length};
+ghost use Rattle.std.specs.Prelude.{◌≡◌, IfOk, IfErr};
 ghost use Rattle.pq_model.specs.Limits.{max_seats, max_capacity};
-ghost use Rattle.pq_io.specs.Inputs.{longest_input};
 ghost use Rattle.pq_cli.specs.Answers.{status_in, text_in, IsWritable};
 ghost use Rattle.pq_cli.specs.CommandWords.{HasLimits, HasTaskLimits, IsStill};
-ghost use Rattle.pq_cli.specs.Commands.{work_of, used_work, task_work};
+ghost use Rattle.pq_cli.specs.Commands.{duty_of, used_work, task_work};
+ghost use Rattle.pq_cli.specs.Duties.{reads_input, IsInput, Fulfils};
 ghost use Rattle.pq_cli.specs.Problems.{used};
 ghost use Rattle.pq_cli.specs.Runs.{Answers, Stops};
 ghost use Rattle.pq_cli.specs.Streams.{change};
@@ -15,6 +15,7 @@ ghost use Rattle.pq_cli.specs.Work.{Meets};
 mod audit;
 mod bound;
 mod check;
+mod make;
 mod prove;
 mod solve;
 mod task;
@@ -26,6 +27,7 @@ use crate::command::{Branching, Command, Kind, Which};
 use crate::commands::audit::audit;
 use crate::commands::bound::bound;
 use crate::commands::check::check;
+use crate::commands::make::make;
 use crate::commands::prove::prove;
 use crate::commands::solve::solve;
 use crate::commands::task::Task;
@@ -43,21 +45,21 @@ use std::sync::Wait;
 use std::thread::Threads;
 
 /// What the command answers to the input, where it needs no threads.
-#[tactic(auto, using(crate::proofs::Explained::input_stops, crate::proofs::Explained::work_stops))]
+#[tactic(auto, using(crate::proofs::Explained::duty_answers, crate::proofs::Explained::duty_writable, crate::proofs::Explained::duty_stops))]
 pub fn respond<I: Source>(alloc: Global, command: Command, input: &mut I) -> Result<Answer, Refusal>
     requires limits { HasLimits command }
     requires still { IsStill command }
     ensures answers { IfOk result (λ a.
-        Answers (work_of command) (status_in a) (text_in a) (change I.left I.faults input.old input.new)) }
+        Answers (duty_of command) (status_in a) (text_in a) (change I.left I.faults input.old input.new)) }
     ensures writable { IfOk result IsWritable }
-    ensures stops { IfErr result (Stops (work_of command) (change I.left I.faults input.old input.new)) }
+    ensures stops { IfErr result (Stops (duty_of command) (change I.left I.faults input.old input.new)) }
 {
-    let bytes = gather_input(alloc, input)?;
+    let bytes = input_of(alloc, command, input)?;
     respond_to(alloc, command, &bytes)
 }
 
 /// What the command answers to the input, where a queue of several callers is of this kind.
-#[tactic(auto, using(crate::proofs::Explained::input_stops, crate::proofs::Explained::work_stops))]
+#[tactic(auto, using(crate::proofs::Explained::duty_answers, crate::proofs::Explained::duty_writable, crate::proofs::Explained::duty_stops))]
 pub fn respond_on<Rt: Threads + Wait + Sync, H: BoundedQueue, I: Source>(
     rt: &Rt,
     alloc: Global,
@@ -68,12 +70,32 @@ pub fn respond_on<Rt: Threads + Wait + Sync, H: BoundedQueue, I: Source>(
     requires limits { HasLimits command }
     requires heap { (H.SEATS ≡ max_seats) × (H.CAPACITY ≡ max_capacity) }
     ensures answers { IfOk result (λ a.
-        Answers (work_of command) (status_in a) (text_in a) (change I.left I.faults input.old input.new)) }
+        Answers (duty_of command) (status_in a) (text_in a) (change I.left I.faults input.old input.new)) }
     ensures writable { IfOk result IsWritable }
-    ensures stops { IfErr result (Stops (work_of command) (change I.left I.faults input.old input.new)) }
+    ensures stops { IfErr result (Stops (duty_of command) (change I.left I.faults input.old input.new)) }
 {
-    let bytes = gather_input(alloc, input)?;
+    let bytes = input_of(alloc, command, input)?;
     respond_to_on::<Rt, H>(rt, alloc, command, &bytes, gate)
+}
+
+// Whether the command reads an input.
+fn reads_input(command: Command) -> bool
+    ensures { result ≡ reads_input (duty_of command) }
+{
+    !matches!(command, Command::Make { .. })
+}
+
+// All that the input holds, where the command reads one. Else the input is left alone.
+#[tactic(auto, using(crate::proofs::Explained::duty_input_stops))]
+fn input_of<I: Source>(alloc: Global, command: Command, input: &mut I) -> Result<Vec<u8>, Refusal>
+    ensures read { IfOk result (λ bytes. IsInput (duty_of command) (change I.left I.faults input.old input.new) bytes.items) }
+    ensures stops { IfErr result (Stops (duty_of command) (change I.left I.faults input.old input.new)) }
+{
+    if !reads_input(command) {
+        return Ok(Vec::new(alloc));
+    }
+    let bytes = gather_input(alloc, input)?;
+    Ok(bytes)
 }
 
 // What the command answers to these bytes, where a queue of several callers is of this kind.
@@ -86,7 +108,7 @@ fn respond_to_on<Rt: Threads + Wait + Sync, H: BoundedQueue>(
 ) -> Result<Answer, Refusal>
     requires limits { HasLimits command }
     requires heap { (H.SEATS ≡ max_seats) × (H.CAPACITY ≡ max_capacity) }
-    ensures { Meets (work_of command) bytes.now result }
+    ensures { Fulfils (duty_of command) bytes.now result }
 {
     match command {
         Command::Trace {
@@ -101,7 +123,7 @@ fn respond_to_on<Rt: Threads + Wait + Sync, H: BoundedQueue>(
 fn respond_to(alloc: Global, command: Command, bytes: &[u8]) -> Result<Answer, Refusal>
     requires limits { HasLimits command }
     requires still { IsStill command }
-    ensures { Meets (work_of command) bytes.now result }
+    ensures { Fulfils (duty_of command) bytes.now result }
 {
     match command {
         Command::Solve {
@@ -140,6 +162,7 @@ fn respond_to(alloc: Global, command: Command, bytes: &[u8]) -> Result<Answer, R
             ..
         } => unreachable!(),
         Command::Audit => audit(alloc, bytes),
+        Command::Make { kind, seed, size } => make(alloc, kind, seed, size),
     }
 }
 

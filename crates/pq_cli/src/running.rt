@@ -5,7 +5,7 @@ ghost use Rattle.pq_model.specs.Limits.{max_seats, max_capacity};
 ghost use Rattle.pq_cli.specs.declared.command.Command.{Command};
 ghost use Rattle.pq_cli.specs.Answers.{status_in, text_in, IsWritable};
 ghost use Rattle.pq_cli.specs.CommandWords.{command_of, still_command_of, texts};
-ghost use Rattle.pq_cli.specs.Commands.{work_of};
+ghost use Rattle.pq_cli.specs.Commands.{duty_of};
 ghost use Rattle.pq_cli.specs.Runs.{IsRun, IsRunAndReported, IsAnsweredWhole, IsComplete, IsWritten};
 ghost use Rattle.pq_cli.specs.Statuses.{IsAnswered};
 ghost use Rattle.pq_cli.specs.Streams.{change};
@@ -45,7 +45,7 @@ pub fn run_still<I: Source, O: Sink, E: Sink>(
         (change I.left I.faults input.old input.new)
         (change O.written O.faults output.old output.new) }
     // And where there was all that the command needs, there is an answer, or no memory.
-    ensures complete { (c : Command) → still_command_of (texts words.now) ≡ Some c → IsComplete (work_of c) result
+    ensures complete { (c : Command) → still_command_of (texts words.now) ≡ Some c → IsComplete (duty_of c) result
         (change I.left I.faults input.old input.new)
         (change O.written O.faults output.old output.new)
         (change E.written E.faults faults.old faults.new) }
@@ -100,7 +100,7 @@ pub fn run<Rt: Threads + Wait + Sync, I: Source, O: Sink, E: Sink, G: Gate>(
         (change I.left I.faults input.old input.new)
         (change O.written O.faults output.old output.new) }
     // And where there was all that the command needs, there is an answer, or no memory.
-    ensures complete { (c : Command) → command_of (texts words.now) ≡ Some c → IsComplete (work_of c) result
+    ensures complete { (c : Command) → command_of (texts words.now) ≡ Some c → IsComplete (duty_of c) result
         (change I.left I.faults input.old input.new)
         (change O.written O.faults output.old output.new)
         (change E.written E.faults faults.old faults.new) }
@@ -132,7 +132,7 @@ pub fn run_on<Rt: Threads + Wait + Sync, H: BoundedQueue, I: Source, O: Sink, E:
         (change I.left I.faults input.old input.new)
         (change O.written O.faults output.old output.new) }
     // And where there was all that the command needs, there is an answer, or no memory.
-    ensures complete { (c : Command) → command_of (texts words.now) ≡ Some c → IsComplete (work_of c) result
+    ensures complete { (c : Command) → command_of (texts words.now) ≡ Some c → IsComplete (duty_of c) result
         (change I.left I.faults input.old input.new)
         (change O.written O.faults output.old output.new)
         (change E.written E.faults faults.old faults.new) }

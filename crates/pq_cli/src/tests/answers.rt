@@ -75,6 +75,8 @@ fn answers_inputs(rt: HostRuntime) -> Result<(), Fail> {
             Status::Ok,
             TRUE_HISTORY,
         ),
+        ("make knapsack --size 1", "", Status::Ok, "1 7\n15 46\n"),
+        ("make --size=1 shop", "any", Status::Ok, "1 1\n0 6\n"),
         ("audit", TRUE_HISTORY, Status::Ok, "legal\nleft 0\n"),
         ("audit", WRONG_ORDER, Status::Illegal, "bad 2\n"),
     ] {

@@ -4,7 +4,8 @@ ghost use Rattle.std.specs.Prelude.{◌≡◌, ◌==◌, ◌<◌, length, positi
 ghost use Rattle.std.specs.Option.{option_map};
 ghost use Rattle.pq_cli.specs.Words.{kind_of, branching_of, which_of, number_in, once, with_kind, with_branching};
 ghost use Rattle.pq_cli.specs.Words.{with_queue, with_workers};
-ghost use Rattle.pq_cli.specs.Words.{with_nodes, with_capacity, with_option, with_lone, behind_dashes, split_at_equals};
+ghost use Rattle.pq_cli.specs.Words.{with_nodes, with_capacity, with_seed, with_size, with_option, with_lone};
+ghost use Rattle.pq_cli.specs.Words.{behind_dashes, split_at_equals};
 ghost use Rattle.pq_cli.specs.Words.{pair_name};
 
 use crate::command::{Branching, Kind, Which};
@@ -121,6 +122,22 @@ fn with_capacity(said: Settings, value: &[u8]) -> Option<Settings>
     Some(Settings { capacity, ..said })
 }
 
+#[tactic(auto, unfolding(crate::specs::Words::with_seed))]
+fn with_seed(said: Settings, value: &[u8]) -> Option<Settings>
+    ensures { result ≡ with_seed said value.now }
+{
+    let seed = once(said.seed, number_in(value)?)?;
+    Some(Settings { seed, ..said })
+}
+
+#[tactic(auto, unfolding(crate::specs::Words::with_size))]
+fn with_size(said: Settings, value: &[u8]) -> Option<Settings>
+    ensures { result ≡ with_size said value.now }
+{
+    let size = once(said.size, number_in(value)?)?;
+    Some(Settings { size, ..said })
+}
+
 /// The settings with this option, which has to be new; `None` where it is no option with such a value.
 #[tactic(auto, unfolding(crate::specs::Words::with_option))]
 pub fn with_option(said: Settings, name: &[u8], value: &[u8]) -> Option<Settings>
@@ -136,6 +153,10 @@ pub fn with_option(said: Settings, name: &[u8], value: &[u8]) -> Option<Settings
         with_capacity(said, value)
     } else if name == b"branching".as_slice() {
         with_branching(said, value)
+    } else if name == b"seed".as_slice() {
+        with_seed(said, value)
+    } else if name == b"size".as_slice() {
+        with_size(said, value)
     } else {
         None
     }

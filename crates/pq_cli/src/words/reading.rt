@@ -1,15 +1,17 @@
 //! All words: the name of a command, and what stands behind it.
 
 ghost use Rattle.std.specs.Prelude.{◌≡◌, ◌<◌, ◌≤◌, [], ◌∷◌, length, IfOk, IfSome, MatchOption};
-ghost use Rattle.pq_cli.specs.Words.{settings_from, is_unlimited, is_silent};
+ghost use Rattle.pq_cli.specs.Words.{settings_from, is_unlimited, is_unmade, is_silent};
 ghost use Rattle.pq_cli.specs.CommandWords.{HasLimits, IsStill, still_alone, answer_of, command_of, texts, within};
 ghost use Rattle.pq_cli.specs.CommandWords.{branching_for, searched, solve_from, kind_alone};
 ghost use Rattle.pq_cli.specs.CommandWords.{bound_from, check_from, prove_from, verify_from, trace_from, audit_from};
+ghost use Rattle.pq_cli.specs.CommandWords.{size_for, make_from, IsMadeSize};
 
 use crate::command::{Branching, Command, Kind, Which};
 use crate::words::options::{pair_name, with_lone, with_option};
 use crate::words::settings::Settings;
 use bb_pool::MAX_NODES;
+use inst_text::{MAX_ITEMS, MAX_MADE_SHOP};
 use pq_model::MAX_CAPACITY;
 use std::alloc::Global;
 
@@ -18,6 +20,15 @@ const DEFAULT_NODES: u64 = 100_000;
 
 /// How many entries a traced queue takes where it is not said.
 const DEFAULT_CAPACITY: u64 = 1_024;
+
+/// The seed of what is made where it is not said.
+const DEFAULT_SEED: u64 = 0;
+
+/// How many items are made where it is not said.
+const DEFAULT_ITEMS: u64 = 100;
+
+/// How many jobs and machines are made where it is not said.
+const DEFAULT_JOBS: u64 = 6;
 
 /// Why the words are read as no command.
 #[derive(Clone, Copy, Debug, PartialEq, Eq)]
@@ -75,6 +86,8 @@ fn command_of(words: &[String]) -> Option<Command>
         trace_from(settings_from(Settings::NONE, behind)?)
     } else if name == b"audit".as_slice() {
         audit_from(settings_from(Settings::NONE, behind)?)
+    } else if name == b"make".as_slice() {
+        make_from(settings_from(Settings::NONE, behind)?)
     } else {
         None
     }
@@ -134,14 +147,18 @@ fn solve_from(said: Settings) -> Option<Command>
         u64::from(MAX_CAPACITY),
         said.capacity.unwrap_or(nodes + workers),
     )?;
-    Some(Command::Solve {
-        kind,
-        branching,
-        queue,
-        workers: workers as u32,
-        nodes: nodes as u32,
-        capacity: capacity as u32,
-    })
+    if is_unmade(&said) {
+        Some(Command::Solve {
+            kind,
+            branching,
+            queue,
+            workers: workers as u32,
+            nodes: nodes as u32,
+            capacity: capacity as u32,
+        })
+    } else {
+        None
+    }
 }
 
 // The queues that a search runs on.
@@ -169,7 +186,14 @@ fn branching_for(kind: Kind, said: Option<Branching>) -> Option<Branching>
 fn is_silent(said: &Settings) -> bool
     ensures { result ≡ is_silent said.now }
 {
-    said.branching.is_none() && is_unlimited(said)
+    said.branching.is_none() && is_unlimited(said) && is_unmade(said)
+}
+
+// No option of what is made was said.
+fn is_unmade(said: &Settings) -> bool
+    ensures { result ≡ is_unmade said.now }
+{
+    said.seed.is_none() && said.size.is_none()
 }
 
 // No option of a search was said.
@@ -198,7 +222,7 @@ fn bound_from(said: Settings) -> Option<Command>
 {
     let kind = said.kind?;
     let branching = branching_for(kind, said.branching)?;
-    if is_unlimited(&said) {
+    if is_unlimited(&said) && is_unmade(&said) {
         Some(Command::Bound { kind, branching })
     } else {
         None
@@ -259,6 +283,7 @@ fn trace_from(said: Settings) -> Option<Command>
         && said.branching.is_none()
         && said.workers.is_none()
         && said.nodes.is_none()
+        && is_unmade(&said)
     {
         Some(Command::Trace {
             queue,
@@ -276,6 +301,36 @@ fn audit_from(said: Settings) -> Option<Command>
 {
     if said.kind.is_none() && is_silent(&said) {
         Some(Command::Audit)
+    } else {
+        None
+    }
+}
+
+// How many items of a knapsack are made, or how many jobs and machines of a shop.
+fn size_for(kind: Kind, said: Option<u64>) -> Option<u64>
+    ensures exact { result ≡ size_for kind said }
+    ensures range { IfSome result (IsMadeSize kind) }
+{
+    match kind {
+        Kind::Knapsack => within(0, u64::from(MAX_ITEMS), said.unwrap_or(DEFAULT_ITEMS)),
+        Kind::Shop => within(1, u64::from(MAX_MADE_SHOP), said.unwrap_or(DEFAULT_JOBS)),
+    }
+}
+
+#[tactic(auto, unfolding(crate::specs::CommandWords::make_from))]
+fn make_from(said: Settings) -> Option<Command>
+    ensures exact { result ≡ make_from said }
+    ensures limits { IfSome result HasLimits }
+{
+    let kind = said.kind?;
+    let seed = within(0, u64::from(u32::MAX), said.seed.unwrap_or(DEFAULT_SEED))?;
+    let size = size_for(kind, said.size)?;
+    if said.branching.is_none() && is_unlimited(&said) {
+        Some(Command::Make {
+            kind,
+            seed: seed as u32,
+            size: size as u32,
+        })
     } else {
         None
     }

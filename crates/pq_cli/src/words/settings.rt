@@ -11,6 +11,8 @@ pub struct Settings {
     pub workers: Option<u64>,
     pub nodes: Option<u64>,
     pub capacity: Option<u64>,
+    pub seed: Option<u64>,
+    pub size: Option<u64>,
 }
 
 impl Settings {
@@ -21,5 +23,7 @@ impl Settings {
         workers: None,
         nodes: None,
         capacity: None,
+        seed: None,
+        size: None,
     };
 }
