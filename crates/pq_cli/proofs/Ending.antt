@@ -1,18 +1,51 @@
 -- What the status of a call says of how it ended.
-use Rattle.std.proofs.Common.{◌≡◌, ◌≤◌, ◌∙◌, ◌⊎◌, min, inl, inr, refl, sym, ap, subst, ℕ, List, Option, None, Some, IfSome, MatchOption, arith}
+use Rattle.std.proofs.Common.{◌≡◌, ◌≤◌, ◌∙◌, ◌⊎◌, min, inl, inr, refl, sym, ap, subst, ℕ, List, Option, None, Some, IfSome, MatchOption, Result, Ok, Err, arith}
+use Rattle.std.specs.Prelude.{IfOk, IfErr, MatchResult}
 use Rattle.bb_pool.specs.Outcomes.{IsOverLimit, IsFullAt}
+use Rattle.pq_cli.specs.declared.answer.Answer.{Answer}
 use Rattle.pq_cli.specs.declared.command.Command.{Command}
 use Rattle.pq_cli.specs.declared.refusal.Refusal.{Refusal}
 use Rattle.pq_cli.specs.declared.refusal.Refusal.TheVariants as refusals
 use Rattle.pq_cli.specs.declared.status.Status.{Status}
 use Rattle.pq_cli.specs.declared.status.Status.TheVariants as statuses
+use Rattle.pq_cli.specs.Answers.{status_in, text_in}
+use Rattle.pq_cli.specs.CommandWords.{answer_of}
 use Rattle.pq_cli.specs.Commands.{duty_of}
 use Rattle.pq_cli.specs.Duties.{Duty, Reads, Writes}
 use Rattle.pq_cli.specs.Refusals.{status_of}
 use Rattle.pq_cli.specs.Statuses.{IsAnswered}
-use Rattle.pq_cli.specs.Streams.{Change, IsFailed}
+use Rattle.pq_cli.specs.Streams.{Change, IsFailed, IsSame}
 use Rattle.pq_cli.specs.Work.{Work, Search, fault_of, HasEnough}
-use Rattle.pq_cli.specs.Runs.{StopsWork, Stops, Answers, IsWhole, Ends, IsUnread, IsRun, IsReported, IsAnsweredWhole, IsComplete}
+use Rattle.pq_cli.specs.Runs.{StopsWork, Stops, Answers, IsWhole, Ends, IsWritten, IsUnread, IsRun, IsReported, IsAnsweredWhole, IsComplete}
+
+-- what a command came to, and what writing it came to
+
+made_ends : {I O : Type 0} (duty : Duty) (made : Result Answer Refusal) (status : Status) (input : Change I) (output : Change O) →
+    IfOk made (λ a. Answers duty (status_in a) (text_in a) input) → IfErr made (Stops duty input) →
+    MatchResult made (λ a. IsWritten (text_in a) (status_in a) status output) (λ r. (status ≡ status_of r) × IsSame output) →
+    Ends duty status input output
+made_ends duty (Ok a) status input output answers stops written = elim written [
+  | inl whole ↦ inl (record { text = text_in a; answers = rw whole.0 answers; written = whole.1 })
+  | inr cut ↦ inr (inr (record {
+    answered = status_in a;
+    text = text_in a;
+    named = cut.0;
+    answers = answers;
+    written = cut.2;
+    failed = cut.1;
+  }))
+]
+made_ends duty (Err r) status input output answers stops written =
+    inr (inl (record { refusal = r; named = written.0; stops = stops; same = written.1 }))
+
+pub made_run : {I O : Type 0} (said : Option Command) (c : Command) (made : Result Answer Refusal) (status : Status) (input : Change I) (output : Change O) →
+    Ok c ≡ answer_of said → IfOk made (λ a. Answers (duty_of c) (status_in a) (text_in a) input) → IfErr made (Stops (duty_of c) input) →
+    MatchResult made (λ a. IsWritten (text_in a) (status_in a) status output) (λ r. (status ≡ status_of r) × IsSame output) →
+    IsRun said status input output
+made_run None c made status input output is answers stops written = absurd (cc)
+made_run (Some k) c made status input output is answers stops written =
+    let same : c ≡ k = cc in
+    subst (λ x. Ends (duty_of x) status input output) same (made_ends (duty_of c) made status input output answers stops written)
 
 -- answers
 
@@ -64,14 +97,14 @@ left_is : {A : Type 0} (o : Option A) (x y : A) → o ≡ Some y → IfSome o (�
 left_is o x y is h = subst (λ p. IfSome p (λ z. x ≡ z)) is h
 
 not_limited : (search : Option Search) (bytes : List ℕ) (asked limit : ℕ) →
-    IfSome search (λ s. (s.needs bytes ≤ s.nodes) × (min s.nodes (s.needs bytes) ≤ s.capacity)) →
-    MatchOption search ⊥ (λ s. IsOverLimit (s.needs bytes) s.nodes asked limit) → ⊥
+    IfSome search (λ s. (s.needs bytes ≤ s.limits.nodes) × (min s.limits.nodes (s.needs bytes) ≤ s.limits.capacity)) →
+    MatchOption search ⊥ (λ s. IsOverLimit (s.needs bytes) s.limits.nodes asked limit) → ⊥
 not_limited None bytes asked limit enough h = h
 not_limited (Some s) bytes asked limit enough h = omega (arith, enough.0, h.limit_is, h.over, h.within)
 
 not_filled : (search : Option Search) (bytes : List ℕ) (place : ℕ) →
-    IfSome search (λ s. (s.needs bytes ≤ s.nodes) × (min s.nodes (s.needs bytes) ≤ s.capacity)) →
-    MatchOption search ⊥ (λ s. IsFullAt (s.needs bytes) s.nodes s.capacity place) → ⊥
+    IfSome search (λ s. (s.needs bytes ≤ s.limits.nodes) × (min s.limits.nodes (s.needs bytes) ≤ s.limits.capacity)) →
+    MatchOption search ⊥ (λ s. IsFullAt (s.needs bytes) s.limits.nodes s.limits.capacity place) → ⊥
 not_filled None bytes place enough h = h
 not_filled (Some s) bytes place enough h = omega (arith, enough.0, enough.1, h.below_limit, h.below_needed)
 

@@ -1,10 +1,10 @@
 -- Which words are which command.
-use Rattle.std.specs.Prelude.{ℕ, ◌+◌, ◌≤◌, ◌&&◌, if◌then◌else◌, List, [], ◌∷◌, map, codes, Option, Some, None, Result}
-use Rattle.std.specs.Prelude.{Ok, Err, is_none, unwrap_or, String, string_bytes}
+use Rattle.std.specs.Prelude.{ℕ, ◌≡◌, ◌+◌, ◌≤◌, ◌&&◌, if◌then◌else◌, min, List, [], ◌∷◌, map, codes, Option, Some, None}
+use Rattle.std.specs.Prelude.{MatchOption, Result, Ok, Err, is_none, unwrap_or, String, string_bytes}
 use Rattle.std.specs.Str.{bytes_eq}
 use Rattle.std.specs.declared.alloc.Global.{Global}
 use Rattle.pq_io.specs.Reading.{is_between}
-use Rattle.pq_model.specs.Limits.{max_capacity}
+use Rattle.pq_model.specs.Limits.{max_seats, max_capacity}
 use Rattle.inst_text.specs.Limits.{max_items, max_made_shop}
 use Rattle.bb_pool.specs.Limits.{max_nodes}
 use Rattle.pq_cli.specs.declared.command.Kind.{Kind}
@@ -17,9 +17,11 @@ use Rattle.pq_cli.specs.declared.command.Command.{Command}
 use Rattle.pq_cli.specs.declared.command.Command.TheVariants.{Solve, Bound, Check, Prove, Verify, Trace, Audit, Make}
 use Rattle.pq_cli.specs.declared.commands.task.Task.{Task}
 use Rattle.pq_cli.specs.declared.commands.task.Task.TheVariants as tasks
+use Rattle.pq_cli.specs.declared.limits.Limits.{Limits}
 use Rattle.pq_cli.specs.declared.words.reading.WordsRefusal.{WordsRefusal}
 use Rattle.pq_cli.specs.declared.words.reading.WordsRefusal.TheVariants.{BadWords}
 use Rattle.pq_cli.specs.declared.words.settings.Settings.{Settings}
+use Rattle.pq_cli.specs.Tracing.{lanes_on}
 use Rattle.pq_cli.specs.Words.{◌>>=◌, option_limit, settings_from, is_unlimited, is_unmade, is_silent}
 
 -- the bytes of each word
@@ -40,23 +42,35 @@ branching_for Shop said = Some (unwrap_or said Dispatch)
 branching_for Knapsack None = Some Dispatch
 branching_for Knapsack (Some branching) = None
 
--- the queues that a search runs on
-abbrev pub searched : Which → Option Which
-searched Plain = Some Plain
-searched Hunt = None
+-- the queue where none is said
+abbrev pub default_queue : Which
+default_queue = Hunt
 
--- A problem and a queue; one worker, one node at least, and a capacity of at least the workers. Where it is not said,
--- the capacity is the nodes and the workers.
+-- the greatest number of workers on a queue
+abbrev pub most_workers : Which → ℕ
+most_workers Plain = 1
+most_workers Hunt = max_seats
+
+-- how many workers a search has on a queue where it is not said
+abbrev pub default_workers : Which → ℕ
+default_workers Plain = 1
+default_workers Hunt = 4
+
+-- the workers that are said for a search on a queue
+abbrev pub workers_for : Which → Option ℕ → Option ℕ
+workers_for queue said = within 1 (most_workers queue) (unwrap_or said (default_workers queue))
+
+-- A problem; one worker at least, one node at least, and a capacity of at least the workers. Where it is not said, the
+-- capacity is the nodes and the workers.
 unfoldable pub solve_from : Settings → Option Command
 solve_from said = do
   kind ← said.kind
   branching ← branching_for kind said.branching
-  named ← said.queue
-  queue ← searched named
-  workers ← within 1 1 (unwrap_or said.workers 1)
+  workers ← workers_for (unwrap_or said.queue default_queue) said.workers
   nodes ← within 1 max_nodes (unwrap_or said.nodes default_nodes)
   capacity ← within workers max_capacity (unwrap_or said.capacity (nodes + workers))
-  if is_unmade said then Some (Solve kind branching queue workers nodes capacity) else None
+  if is_unmade said
+      then Some (Solve kind branching (unwrap_or said.queue default_queue) workers nodes capacity) else None
 
 -- a problem, and for a shop a branching
 unfoldable pub bound_from : Settings → Option Command
@@ -97,12 +111,12 @@ verify_from said = kind_alone said >>= verify_of
 abbrev pub default_capacity : ℕ
 default_capacity = 1024
 
--- A queue and a capacity. Where no queue is said, it is the heap.
+-- a queue and a capacity
 unfoldable pub trace_from : Settings → Option Command
 trace_from said = do
   capacity ← within 1 max_capacity (unwrap_or said.capacity default_capacity)
   if is_none said.kind && (is_none said.branching && (is_none said.workers && (is_none said.nodes && is_unmade said)))
-      then Some (Trace (unwrap_or said.queue Hunt) capacity) else None
+      then Some (Trace (unwrap_or said.queue default_queue) capacity) else None
 
 -- nothing
 unfoldable pub audit_from : Settings → Option Command
@@ -147,8 +161,30 @@ command_of (name ∷ words) =
     else if bytes_eq name (codes "make") then settings_from nothing words >>= make_from
     else None
 
+-- the queue that a command uses, if any
+abbrev pub queue_of : Command → Option Which
+queue_of (Solve kind branching queue workers nodes capacity) = Some queue
+queue_of (Bound kind branching) = None
+queue_of (Check kind) = None
+queue_of (Trace queue capacity) = Some queue
+queue_of (Prove queue workers nodes capacity) = Some queue
+queue_of Verify = None
+queue_of Audit = None
+queue_of (Make kind seed size) = None
+
+-- a queue has one caller
+abbrev pub IsPlain : Which → Type 0
+IsPlain Plain = Unit {0}
+IsPlain Hunt = ⊥
+
+-- a command needs no threads: if it uses a queue, that has one caller
+abbrev pub IsStill : Command → Type 0
+IsStill command = MatchOption (queue_of command) (Unit {0}) IsPlain
+
 -- whether a command is one that needs no threads
 abbrev pub still_alone : Command → Option Command
+still_alone (Solve kind branching Hunt workers nodes capacity) = None
+still_alone (Prove Hunt workers nodes capacity) = None
 still_alone (Trace Hunt capacity) = None
 still_alone c = Some c
 
@@ -156,38 +192,52 @@ still_alone c = Some c
 abbrev pub still_command_of : List (List ℕ) → Option Command
 still_command_of words = command_of words >>= still_alone
 
--- a command needs no threads
-abbrev pub IsStill : Command → Type 0
-IsStill (Trace Hunt capacity) = ⊥
-IsStill c = Unit {0}
-
 -- what reading the words answers, where it takes no memory
 abbrev pub answer_of : Option Command → Result Command WordsRefusal
 answer_of (Some command) = Ok command
 answer_of None = Err BadWords
 
--- the numbers that a search may have
-pub record AreLimits (n c : ℕ) : Type 0 where
-  pub nodes : (1 ≤ n) × (n ≤ max_nodes)
-  pub capacity : (1 ≤ c) × (c ≤ max_capacity)
+-- the limits of a search, from these numbers
+abbrev pub limits_of : ℕ → ℕ → ℕ → Limits
+limits_of workers nodes capacity = record { workers = workers; nodes = nodes; capacity = capacity }
+
+-- The limits that a search may have over a queue of at most so many callers and this capacity.
+pub record AreWithin (callers capacity : ℕ) (limits : Limits) : Type 0 where
+  pub workers : (1 ≤ limits.workers) × (limits.workers ≤ callers)
+  pub nodes : (1 ≤ limits.nodes) × (limits.nodes ≤ max_nodes)
+  pub capacity_is : (limits.workers ≤ limits.capacity) × (limits.capacity ≤ capacity)
+
+-- the limits that a search may have on the queue of this name
+abbrev pub AreLimits : Which → Limits → Type 0
+AreLimits queue limits = AreWithin (most_workers queue) max_capacity limits
 
 -- the size that something made of this kind may have
 abbrev pub IsMadeSize : Kind → ℕ → Type 0
 IsMadeSize Knapsack size = size ≤ max_items
 IsMadeSize Shop size = (1 ≤ size) × (size ≤ max_made_shop)
 
--- the same of what is to be done with a problem
+-- the same of what is to be done with a problem where no threads are needed
 abbrev pub HasTaskLimits : Task → Type 0
-HasTaskLimits (tasks.Solve nodes capacity) = AreLimits nodes capacity
+HasTaskLimits (tasks.Solve limits) = AreWithin 1 max_capacity limits
 HasTaskLimits _ = Unit {0}
 
 -- the same of a command
 abbrev pub HasLimits : Command → Type 0
-HasLimits (Solve kind branching queue workers nodes capacity) = AreLimits nodes capacity
+HasLimits (Solve kind branching queue workers nodes capacity) = AreLimits queue (limits_of workers nodes capacity)
 HasLimits (Bound kind branching) = Unit {0}
 HasLimits (Check kind) = Unit {0}
 HasLimits (Trace queue capacity) = (1 ≤ capacity) × (capacity ≤ max_capacity)
-HasLimits (Prove queue workers nodes capacity) = AreLimits nodes capacity
+HasLimits (Prove queue workers nodes capacity) = AreLimits queue (limits_of workers nodes capacity)
 HasLimits Verify = Unit {0}
 HasLimits Audit = Unit {0}
 HasLimits (Make kind seed size) = IsMadeSize kind size
+
+-- A command uses a queue, within the limits of one of at most so many callers and this capacity.
+abbrev pub IsShared : ℕ → ℕ → Command → Type 0
+IsShared callers most (Solve kind branching queue workers nodes capacity) =
+    AreWithin callers most (limits_of workers nodes capacity)
+IsShared callers most (Prove queue workers nodes capacity) =
+    AreWithin callers most (limits_of workers nodes capacity)
+IsShared callers most (Trace queue capacity) =
+    (1 ≤ capacity) × (capacity ≤ most) × (lanes_on queue capacity ≡ min callers capacity)
+IsShared callers most _ = ⊥

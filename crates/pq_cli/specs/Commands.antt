@@ -17,8 +17,10 @@ use Rattle.pq_cli.specs.declared.command.Command.{Command}
 use Rattle.pq_cli.specs.declared.command.Command.TheVariants as commands
 use Rattle.pq_cli.specs.declared.commands.task.Task.{Task}
 use Rattle.pq_cli.specs.declared.commands.task.Task.TheVariants.{Solve, Bound, Check}
+use Rattle.pq_cli.specs.declared.limits.Limits.{Limits}
 use Rattle.pq_cli.specs.declared.status.Status.TheVariants as statuses
 use Rattle.pq_cli.specs.Auditing.{IsAudited}
+use Rattle.pq_cli.specs.CommandWords.{limits_of}
 use Rattle.pq_cli.specs.Tracing.{IsTraced, lanes_on}
 use Rattle.pq_cli.specs.Proving.{IsProved, IsProofTooLong, IsVerified}
 use Rattle.pq_cli.specs.Using.{Texts, IsSolved, IsRootBound, IsChecked}
@@ -32,15 +34,11 @@ needed_for meaning (Ok instance) = needed (meaning instance).tree (meaning insta
 needed_for meaning (Err fault) = 0
 
 -- a feasible plan that no feasible plan betters
-abbrev pub solving : {I N P : Type 0} → (I → Meaning N P) → Texts I P → ℕ → ℕ → Work
-solving meaning texts nodes capacity = record {
+abbrev pub solving : {I N P : Type 0} → (I → Meaning N P) → Texts I P → Limits → Work
+solving meaning texts limits = record {
   first_fault = λ bytes. fault_in (texts.instance_of bytes);
-  IsAnswer = λ bytes status text. (status ≡ statuses.Ok) × IsSolved meaning texts nodes capacity bytes text;
-  search = Some (record {
-    nodes = nodes;
-    capacity = capacity;
-    needs = λ bytes. needed_for meaning (texts.instance_of bytes);
-  });
+  IsAnswer = λ bytes status text. (status ≡ statuses.Ok) × IsSolved meaning texts limits bytes text;
+  search = Some (record { limits = limits; needs = λ bytes. needed_for meaning (texts.instance_of bytes) });
   IsTooLong = λ bytes. ⊥;
 }
 
@@ -72,13 +70,12 @@ auditing = record {
 }
 
 -- a best choice of a knapsack, and the proof that no choice has more
-abbrev pub proving : ℕ → ℕ → Work
-proving nodes capacity = record {
+abbrev pub proving : Limits → Work
+proving limits = record {
   first_fault = λ bytes. fault_in (knapsack_of bytes);
-  IsAnswer = λ bytes status text. (status ≡ statuses.Ok) × IsProved nodes capacity bytes text;
+  IsAnswer = λ bytes status text. (status ≡ statuses.Ok) × IsProved limits bytes text;
   search = Some (record {
-    nodes = nodes;
-    capacity = capacity;
+    limits = limits;
     needs = λ bytes. needed_for knapsacks.meaning_of (knapsack_of bytes);
   });
   IsTooLong = IsProofTooLong;
@@ -104,7 +101,7 @@ tracing allowed capacity = record {
 
 -- what is to be done with a problem
 abbrev pub task_work : {I N P : Type 0} → (I → Meaning N P) → Texts I P → Task → Work
-task_work meaning texts (Solve nodes capacity) = solving meaning texts nodes capacity
+task_work meaning texts (Solve limits) = solving meaning texts limits
 task_work meaning texts Bound = bounding texts
 task_work meaning texts Check = checking texts
 
@@ -119,11 +116,11 @@ made_text Shop seed size = shop_text (made_shop seed size)
 
 abbrev pub duty_of : Command → Duty
 duty_of (commands.Solve kind branching queue workers nodes capacity) =
-    Reads (used_work (used kind branching) (Solve nodes capacity))
+    Reads (used_work (used kind branching) (Solve (limits_of workers nodes capacity)))
 duty_of (commands.Bound kind branching) = Reads (used_work (used kind branching) Bound)
 duty_of (commands.Check kind) = Reads (used_work (used kind Dispatch) Check)
 duty_of (commands.Trace queue capacity) = Reads (tracing (lanes_on queue capacity) capacity)
-duty_of (commands.Prove queue workers nodes capacity) = Reads (proving nodes capacity)
+duty_of (commands.Prove queue workers nodes capacity) = Reads (proving (limits_of workers nodes capacity))
 duty_of commands.Verify = Reads verifying
 duty_of commands.Audit = Reads auditing
 duty_of (commands.Make kind seed size) = Writes (made_text kind seed size)

@@ -7,16 +7,16 @@ use Rattle.inst_text.specs.declared.plan.Claimed.{Claimed}
 use Rattle.inst_text.specs.Knapsack.{Instance, knapsack_of}
 use Rattle.bb_knap.specs.Plans.{value_of, cost_of}
 use Rattle.bb_knap.specs.Branching.{tree_of, meaning_of}
-use Rattle.bb_pool.specs.Outcomes.{LeaveRoom}
 use Rattle.bb_proof.specs.declared.verdict.ProofVerdict.{ProofVerdict}
 use Rattle.bb_proof.specs.declared.verdict.ProofVerdict.TheVariants.{Proved}
 use Rattle.bb_proof.specs.Tokens.{proof_limit, canonical}
 use Rattle.bb_proof.specs.Verdicts.{IsProofVerdict, MeansBest}
 use Rattle.bb_proof.specs.Verdicts as verdicts
 use Rattle.bb_proof.specs.Texts.{proof_of, proof_text}
+use Rattle.pq_cli.specs.declared.limits.Limits.{Limits}
 use Rattle.pq_cli.specs.declared.status.Status.{Status}
 use Rattle.pq_cli.specs.declared.status.Status.TheVariants as statuses
-use Rattle.pq_cli.specs.Using.{IsBestPlan}
+use Rattle.pq_cli.specs.Using.{IsBestPlan, HaveRoom}
 
 -- the proof that no choice costs less than this one: the canonical one of its cost
 abbrev pub proof_for : Instance → List ℕ → List Bool
@@ -24,12 +24,12 @@ proof_for i choice = canonical (tree_of i) (cost_of i choice)
 
 -- The text of a best choice of the instance that was read, and of the proof that no choice has more. It was found by a
 -- search within its limits.
-pub record IsProved (nodes capacity : ℕ) (bytes text : List ℕ) : Type 0 where
+pub record IsProved (limits : Limits) (bytes text : List ℕ) : Type 0 where
   pub instance : Instance
   pub choice : List ℕ
   pub reads : knapsack_of bytes ≡ Ok instance
   pub best : IsBestPlan (meaning_of instance) choice
-  pub room : LeaveRoom (tree_of instance) (meaning_of instance).least nodes capacity
+  pub room : HaveRoom limits (tree_of instance) (meaning_of instance).least
   pub few : length (proof_for instance choice) ≤ proof_limit
   pub written : text ≡ proof_text (record { stated = value_of instance.items choice; plan = choice })
       (proof_for instance choice)
@@ -72,6 +72,6 @@ pub record IsVerified (bytes : List ℕ) (status : Status) (text : List ℕ) : T
 -- What is proved of an instance is verified behind it, for a text of the instance that ends with a line feed, if both
 -- together are no longer than an input may be.
 abbrev pub AreVerified : Type 0
-AreVerified = (nodes capacity : ℕ) (bytes text : List ℕ) → IsProved nodes capacity (bytes ++ 10 ∷ []) text
+AreVerified = (limits : Limits) (bytes text : List ℕ) → IsProved limits (bytes ++ 10 ∷ []) text
     → length (bytes ++ 10 ∷ text) ≤ longest_input
     → (number : ℕ) × IsVerified (bytes ++ 10 ∷ text) statuses.Ok (proved_text number)

@@ -1,5 +1,5 @@
 -- What becomes of a refusal on its way up.
-use Rattle.std.specs.Prelude.{List, Bool, Result, Ok, Err}
+use Rattle.std.specs.Prelude.{List, Bool, true, false, Result, Ok, Err}
 use Rattle.pq_io.specs.declared.text.fault.ReadRefusal.{ReadRefusal}
 use Rattle.pq_io.specs.declared.text.fault.ReadRefusal.TheVariants as reads
 use Rattle.pq_io.specs.declared.input.InputRefusal.{InputRefusal}
@@ -32,6 +32,12 @@ plan_of (outcomes.Best plan cost) = Ok plan
 plan_of (outcomes.NodeLimit asked limit) = Err (refusals.NodeLimit asked limit)
 plan_of (outcomes.Full place) = Err (refusals.Full place)
 plan_of outcomes.NoMemory = Err refusals.NoMemory
+
+-- a limit of the search ended it
+abbrev pub is_stopped : {P : Type 0} → Outcome P → Bool
+is_stopped (outcomes.NodeLimit asked limit) = true
+is_stopped (outcomes.Full place) = true
+is_stopped _ = false
 
 -- of making a proof: the proof stays the proof
 abbrev pub made_of : Made → Result (List Bool) Refusal

@@ -3,7 +3,9 @@ use Rattle.std.specs.Prelude.{ℕ, ◌≡◌, ◌≤◌, List, Result, Ok}
 use Rattle.pq_io.specs.declared.text.fault.BadInput.{BadInput}
 use Rattle.inst_text.specs.declared.plan.Claimed.{Claimed}
 use Rattle.bb_problem.specs.Meaning.{Meaning}
+use Rattle.bb_problem.specs.Tree.{Tree}
 use Rattle.bb_pool.specs.Outcomes.{LeaveRoom}
+use Rattle.pq_cli.specs.declared.limits.Limits.{Limits}
 use Rattle.pq_cli.specs.declared.status.Status.{Status}
 use Rattle.pq_cli.specs.Texts.{bound_text}
 
@@ -24,6 +26,11 @@ pub record IsBestPlan {N P : Type 0} (m : Meaning N P) (plan : P) : Type 0 where
   pub feasible : m.is_feasible plan
   pub cheapest : (other : P) → m.is_feasible other → m.cost_of plan ≤ m.cost_of other
 
+-- Where one worker searched, the limits leave room for what it did not get around: it finds no best plan with fewer
+-- nodes, or with less room for open ones. Of several workers nothing is said here.
+abbrev pub HaveRoom : Limits → Tree → ℕ → Type 0
+HaveRoom limits tree least = limits.workers ≡ 1 → LeaveRoom tree least limits.nodes limits.capacity
+
 -- The text of a best plan of the instance that was read.
 pub record IsSolution {I N P : Type 0} (meaning : I → Meaning N P) (texts : Texts I P)
     (bytes text : List ℕ) : Type 0 where
@@ -33,11 +40,11 @@ pub record IsSolution {I N P : Type 0} (meaning : I → Meaning N P) (texts : Te
   pub best : IsBestPlan (meaning instance) plan
   pub written : text ≡ texts.plan_text instance plan
 
--- The same, found by a search within its limits: no search finds it with fewer nodes, or with less room for open ones.
+-- The same, found by a search within its limits.
 pub record IsSolved {I N P : Type 0} (meaning : I → Meaning N P) (texts : Texts I P)
-    (nodes capacity : ℕ) (bytes text : List ℕ) : Type 0 where
+    (limits : Limits) (bytes text : List ℕ) : Type 0 where
   pub solution : IsSolution meaning texts bytes text
-  pub room : LeaveRoom (meaning solution.instance).tree (meaning solution.instance).least nodes capacity
+  pub room : HaveRoom limits (meaning solution.instance).tree (meaning solution.instance).least
 
 -- The text of the root's bound of the instance that was read.
 pub record IsRootBound {I P : Type 0} (texts : Texts I P) (bytes text : List ℕ) : Type 0 where

@@ -5,19 +5,19 @@ use Rattle.pq_io.specs.declared.text.fault.BadInput.{BadInput}
 use Rattle.pq_io.specs.Inputs.{longest_input, too_large}
 use Rattle.bb_problem.specs.Meaning.{Meaning}
 use Rattle.bb_problem.specs.Tree.{needed}
-use Rattle.bb_pool.specs.Outcomes.{IsOverLimit, IsFullAt, LeaveRoom}
+use Rattle.bb_pool.specs.Outcomes.{IsOverLimit, IsFullAt}
 use Rattle.pq_cli.specs.declared.answer.Answer.{Answer}
+use Rattle.pq_cli.specs.declared.limits.Limits.{Limits}
 use Rattle.pq_cli.specs.declared.refusal.Refusal.{Refusal}
 use Rattle.pq_cli.specs.declared.refusal.Refusal.TheVariants as refusals
 use Rattle.pq_cli.specs.declared.status.Status.{Status}
 use Rattle.pq_cli.specs.Answers.{status_in, text_in, IsWritable}
 use Rattle.pq_cli.specs.Statuses.{IsAnswered}
-use Rattle.pq_cli.specs.Using.{IsBestPlan}
+use Rattle.pq_cli.specs.Using.{IsBestPlan, HaveRoom}
 
 -- A search, with its limits.
 pub record Search : Type 0 where
-  pub nodes : ℕ
-  pub capacity : ℕ
+  pub limits : Limits
   -- how many nodes it has to make for the instance that the bytes read as
   pub needs : List ℕ → ℕ
 
@@ -44,17 +44,17 @@ fault_in (Err fault) = Some fault
 -- a search of the instance that the bytes read as asked for more nodes than its limit
 abbrev pub IsLimited : Work → List ℕ → ℕ → ℕ → Type 0
 IsLimited work bytes asked limit = (work.first_fault bytes ≡ None)
-    × MatchOption work.search ⊥ (λ s. IsOverLimit (s.needs bytes) s.nodes asked limit)
+    × MatchOption work.search ⊥ (λ s. IsOverLimit (s.needs bytes) s.limits.nodes asked limit)
 
 -- it found the queue full at this place
 abbrev pub IsFilled : Work → List ℕ → ℕ → Type 0
 IsFilled work bytes place = (work.first_fault bytes ≡ None)
-    × MatchOption work.search ⊥ (λ s. IsFullAt (s.needs bytes) s.nodes s.capacity place)
+    × MatchOption work.search ⊥ (λ s. IsFullAt (s.needs bytes) s.limits.nodes s.limits.capacity place)
 
 -- The node limit and the capacity are enough for what the search has to make, and the proof is not too long.
 pub record HasEnough (work : Work) (bytes : List ℕ) : Type 0 where
   pub for_search : IfSome work.search (λ s.
-      (s.needs bytes ≤ s.nodes) × (min s.nodes (s.needs bytes) ≤ s.capacity))
+      (s.needs bytes ≤ s.limits.nodes) × (min s.limits.nodes (s.needs bytes) ≤ s.limits.capacity))
   pub for_proof : ¬ work.IsTooLong bytes
 
 -- The cause of each refusal of the work on these bytes.
@@ -66,16 +66,17 @@ Explains work bytes refusals.ReadFault = ⊥
 Explains work bytes refusals.NoMemory = Unit {0}
 Explains work bytes refusals.ProofLimit = work.IsTooLong bytes
 
--- What a search under these limits came to: a best plan, or a refusal and its cause.
-abbrev pub IsPlanned : {N P : Type 0} → Meaning N P → ℕ → ℕ → Result P Refusal → Type 0
-IsPlanned m nodes capacity (Ok plan) = IsBestPlan m plan × LeaveRoom m.tree m.least nodes capacity
-IsPlanned m nodes capacity (Err (refusals.BadInput fault)) = ⊥
-IsPlanned m nodes capacity (Err (refusals.NodeLimit asked limit)) =
-    IsOverLimit (needed m.tree m.least) nodes asked limit
-IsPlanned m nodes capacity (Err (refusals.Full place)) = IsFullAt (needed m.tree m.least) nodes capacity place
-IsPlanned m nodes capacity (Err refusals.ReadFault) = ⊥
-IsPlanned m nodes capacity (Err refusals.NoMemory) = Unit {0}
-IsPlanned m nodes capacity (Err refusals.ProofLimit) = ⊥
+-- What a search within these limits came to: a best plan, or a refusal and its cause.
+abbrev pub IsPlanned : {N P : Type 0} → Meaning N P → Limits → Result P Refusal → Type 0
+IsPlanned m limits (Ok plan) = IsBestPlan m plan × HaveRoom limits m.tree m.least
+IsPlanned m limits (Err (refusals.BadInput fault)) = ⊥
+IsPlanned m limits (Err (refusals.NodeLimit asked limit)) =
+    IsOverLimit (needed m.tree m.least) limits.nodes asked limit
+IsPlanned m limits (Err (refusals.Full place)) =
+    IsFullAt (needed m.tree m.least) limits.nodes limits.capacity place
+IsPlanned m limits (Err refusals.ReadFault) = ⊥
+IsPlanned m limits (Err refusals.NoMemory) = Unit {0}
+IsPlanned m limits (Err refusals.ProofLimit) = ⊥
 
 -- What the work on these bytes came to: its answer, or a refusal and its cause.
 abbrev pub Meets : Work → List ℕ → Result Answer Refusal → Type 0

@@ -1,10 +1,11 @@
 //! The commands, each from its input to an answer or a refusal. The problem that a command names is chosen here, and
-//! nowhere else.
+//! nowhere else; and so is the queue.
 
 ghost use Rattle.std.specs.Prelude.{◌≡◌, IfOk, IfErr};
 ghost use Rattle.pq_model.specs.Limits.{max_seats, max_capacity};
+ghost use Rattle.pq_cli.specs.declared.commands.task.Task.TheVariants as tasks;
 ghost use Rattle.pq_cli.specs.Answers.{status_in, text_in, IsWritable};
-ghost use Rattle.pq_cli.specs.CommandWords.{HasLimits, HasTaskLimits, IsStill};
+ghost use Rattle.pq_cli.specs.CommandWords.{HasLimits, HasTaskLimits, AreWithin, IsStill, IsShared, queue_of};
 ghost use Rattle.pq_cli.specs.Commands.{duty_of, used_work, task_work};
 ghost use Rattle.pq_cli.specs.Duties.{reads_input, IsInput, Fulfils};
 ghost use Rattle.pq_cli.specs.Problems.{used};
@@ -28,11 +29,12 @@ use crate::commands::audit::audit;
 use crate::commands::bound::bound;
 use crate::commands::check::check;
 use crate::commands::make::make;
-use crate::commands::prove::prove;
-use crate::commands::solve::solve;
+use crate::commands::prove::{prove, prove_on};
+use crate::commands::solve::{solve, solve_on};
 use crate::commands::task::Task;
 use crate::commands::trace::{trace, trace_on};
 use crate::commands::verify::verify;
+use crate::limits::Limits;
 use crate::problem::UsedProblem;
 use crate::refusal::Refusal;
 use bb_knap::Knapsack;
@@ -67,6 +69,8 @@ pub fn respond_on<Rt: Threads + Wait + Sync, H: BoundedQueue, I: Source>(
     input: &mut I,
     gate: H::Gate,
 ) -> Result<Answer, Refusal>
+where
+    H::Gate: Copy,
     requires limits { HasLimits command }
     requires heap { (H.SEATS ≡ max_seats) × (H.CAPACITY ≡ max_capacity) }
     ensures answers { IfOk result (λ a.
@@ -98,7 +102,9 @@ fn input_of<I: Source>(alloc: Global, command: Command, input: &mut I) -> Result
     Ok(bytes)
 }
 
-// What the command answers to these bytes, where a queue of several callers is of this kind.
+// What the command answers to these bytes, where a queue of several callers is of this kind. A queue has its one line
+// here.
+#[tactic(auto, using(crate::proofs::Shared::hunt_is_shared))]
 fn respond_to_on<Rt: Threads + Wait + Sync, H: BoundedQueue>(
     rt: &Rt,
     alloc: Global,
@@ -106,16 +112,69 @@ fn respond_to_on<Rt: Threads + Wait + Sync, H: BoundedQueue>(
     bytes: &[u8],
     gate: H::Gate,
 ) -> Result<Answer, Refusal>
+where
+    H::Gate: Copy,
     requires limits { HasLimits command }
     requires heap { (H.SEATS ≡ max_seats) × (H.CAPACITY ≡ max_capacity) }
     ensures { Fulfils (duty_of command) bytes.now result }
 {
+    match queue_of(command) {
+        Some(Which::Hunt) => respond_by::<Rt, H>(rt, alloc, command, bytes, gate),
+        Some(Which::Plain) => respond_to(alloc, command, bytes),
+        None => respond_to(alloc, command, bytes),
+    }
+}
+
+// What a command that uses a queue of several callers answers to these bytes, where the queue is of this kind.
+fn respond_by<Rt: Threads + Wait + Sync, Q: BoundedQueue>(
+    rt: &Rt,
+    alloc: Global,
+    command: Command,
+    bytes: &[u8],
+    gate: Q::Gate,
+) -> Result<Answer, Refusal>
+where
+    Q::Gate: Copy,
+    requires shared { IsShared Q.SEATS Q.CAPACITY command }
+    ensures { Fulfils (duty_of command) bytes.now result }
+{
     match command {
-        Command::Trace {
-            queue: Which::Hunt,
+        Command::Solve {
+            kind,
+            branching,
+            workers,
+            nodes,
             capacity,
-        } => trace_on::<Rt, H>(rt, alloc, bytes, capacity, gate),
-        _ => respond_to(alloc, command, bytes),
+            ..
+        } => {
+            let limits = Limits {
+                workers,
+                nodes,
+                capacity,
+            };
+            solve_named::<Rt, Q>(rt, alloc, kind, branching, bytes, limits, gate)
+        }
+        Command::Prove {
+            workers,
+            nodes,
+            capacity,
+            ..
+        } => {
+            let limits = Limits {
+                workers,
+                nodes,
+                capacity,
+            };
+            prove_on::<Rt, Q>(rt, alloc, bytes, limits, gate)
+        }
+        Command::Trace { capacity, .. } => trace_on::<Rt, Q>(rt, alloc, bytes, capacity, gate),
+        Command::Bound { .. }
+        | Command::Check { .. }
+        | Command::Verify
+        | Command::Audit
+        | Command::Make { .. } => {
+            unreachable!()
+        }
     }
 }
 
@@ -129,16 +188,18 @@ fn respond_to(alloc: Global, command: Command, bytes: &[u8]) -> Result<Answer, R
         Command::Solve {
             kind,
             branching,
+            queue: Which::Plain,
+            workers,
             nodes,
             capacity,
-            ..
-        } => on_problem(
-            alloc,
-            kind,
-            branching,
-            Task::Solve { nodes, capacity },
-            bytes,
-        ),
+        } => {
+            let limits = Limits {
+                workers,
+                nodes,
+                capacity,
+            };
+            on_problem(alloc, kind, branching, Task::Solve(limits), bytes)
+        }
         Command::Bound { kind, branching } => on_problem(
             alloc,
             kind,
@@ -148,20 +209,36 @@ fn respond_to(alloc: Global, command: Command, bytes: &[u8]) -> Result<Answer, R
         ),
         Command::Check { kind } => on_problem(alloc, kind, Branching::Dispatch, Task::Check, bytes),
         Command::Prove {
+            queue: Which::Plain,
+            workers,
             nodes,
             capacity,
-            ..
-        } => prove(alloc, bytes, nodes, capacity),
+        } => {
+            let limits = Limits {
+                workers,
+                nodes,
+                capacity,
+            };
+            prove(alloc, bytes, limits)
+        }
         Command::Verify => verify(alloc, bytes),
         Command::Trace {
             queue: Which::Plain,
             capacity,
         } => trace(alloc, bytes, capacity),
-        Command::Trace {
+        Command::Audit => audit(alloc, bytes),
+        Command::Solve {
+            queue: Which::Hunt,
+            ..
+        }
+        | Command::Prove {
+            queue: Which::Hunt,
+            ..
+        }
+        | Command::Trace {
             queue: Which::Hunt,
             ..
         } => unreachable!(),
-        Command::Audit => audit(alloc, bytes),
         Command::Make { kind, seed, size } => make(alloc, kind, seed, size),
     }
 }
@@ -184,14 +261,57 @@ fn on_problem(
     }
 }
 
+// A best plan of the problem that is named, found by a search over a queue of this kind. A problem has its one line
+// here too: no trait can hand on that what threads share of it may be shared.
+fn solve_named<Rt: Threads + Wait + Sync, Q: BoundedQueue>(
+    rt: &Rt,
+    alloc: Global,
+    kind: Kind,
+    branching: Branching,
+    bytes: &[u8],
+    limits: Limits,
+    gate: Q::Gate,
+) -> Result<Answer, Refusal>
+where
+    Q::Gate: Copy,
+    requires { AreWithin Q.SEATS Q.CAPACITY limits }
+    ensures { Meets (used_work (used kind branching) (tasks.Solve limits)) bytes.now result }
+{
+    match (kind, branching) {
+        (Kind::Knapsack, _) => solve_on::<Rt, Q, Knapsack>(rt, alloc, bytes, limits, gate),
+        (Kind::Shop, Branching::Dispatch) => {
+            solve_on::<Rt, Q, Shop>(rt, alloc, bytes, limits, gate)
+        }
+        (Kind::Shop, Branching::Active) => {
+            solve_on::<Rt, Q, ActiveShop>(rt, alloc, bytes, limits, gate)
+        }
+    }
+}
+
 // The task, done on an instance of a problem that the bytes read as.
 fn perform<P: UsedProblem>(alloc: Global, task: Task, bytes: &[u8]) -> Result<Answer, Refusal>
     requires { HasTaskLimits task }
     ensures { Meets (task_work P.meaning P.texts task) bytes.now result }
 {
     match task {
-        Task::Solve { nodes, capacity } => solve::<P>(alloc, bytes, nodes, capacity),
+        Task::Solve(limits) => solve::<P>(alloc, bytes, limits),
         Task::Bound => bound::<P>(alloc, bytes),
         Task::Check => check::<P>(alloc, bytes),
+    }
+}
+
+// The queue that the command uses, if any.
+fn queue_of(command: Command) -> Option<Which>
+    ensures { result ≡ queue_of command }
+{
+    match command {
+        Command::Solve { queue, .. }
+        | Command::Prove { queue, .. }
+        | Command::Trace { queue, .. } => { Some(queue) }
+        Command::Bound { .. }
+        | Command::Check { .. }
+        | Command::Verify
+        | Command::Audit
+        | Command::Make { .. } => None,
     }
 }

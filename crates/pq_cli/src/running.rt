@@ -1,6 +1,6 @@
 //! The top call.
 
-ghost use Rattle.std.specs.Prelude.{◌≡◌, Some};
+ghost use Rattle.std.specs.Prelude.{◌≡◌, Some, IfOk, MatchResult};
 ghost use Rattle.pq_model.specs.Limits.{max_seats, max_capacity};
 ghost use Rattle.pq_cli.specs.declared.command.Command.{Command};
 ghost use Rattle.pq_cli.specs.Answers.{status_in, text_in, IsWritable};
@@ -8,13 +8,15 @@ ghost use Rattle.pq_cli.specs.CommandWords.{command_of, still_command_of, texts}
 ghost use Rattle.pq_cli.specs.Commands.{duty_of};
 ghost use Rattle.pq_cli.specs.Runs.{IsRun, IsRunAndReported, IsAnsweredWhole, IsComplete, IsWritten};
 ghost use Rattle.pq_cli.specs.Statuses.{IsAnswered};
-ghost use Rattle.pq_cli.specs.Streams.{change};
+ghost use Rattle.pq_cli.specs.Refusals.{status_of};
+ghost use Rattle.pq_cli.specs.Streams.{change, IsSame};
 
 use crate::answer::Answer;
 use crate::commands::{respond, respond_on};
+use crate::refusal::Refusal;
 use crate::reporting::report;
 use crate::status::Status;
-use crate::words::{read_words, still_alone};
+use crate::words::{read_still_words, read_words};
 use pq_api::{BoundedQueue, Gate};
 use pq_hunt::HuntHeap;
 use pq_io::{Failed, Sink, Source, put_all};
@@ -53,7 +55,7 @@ pub fn run_still<I: Source, O: Sink, E: Sink>(
     report(run_words(alloc, words, input, output), faults)
 }
 
-// Runs the command that the words say, and reports nothing.
+// Runs the command that the words say, where it needs no threads, and reports nothing.
 fn run_words<I: Source, O: Sink>(
     alloc: Global,
     words: &[String],
@@ -64,15 +66,8 @@ fn run_words<I: Source, O: Sink>(
         (change I.left I.faults input.old input.new)
         (change O.written O.faults output.old output.new) }
 {
-    let command = match read_words(alloc, words) {
-        Ok(command) => command,
-        Err(refusal) => return Status::from(refusal),
-    };
-    let Some(command) = still_alone(command) else {
-        return Status::BadWords;
-    };
-    match respond(alloc, command, input) {
-        Ok(answer) => write_answer(output, &answer),
+    match read_still_words(alloc, words) {
+        Ok(command) => write_made(respond(alloc, command, input), output),
         Err(refusal) => Status::from(refusal),
     }
 }
@@ -80,7 +75,8 @@ fn run_words<I: Source, O: Sink>(
 /// Runs the command that the words say, with this gate at the points of the queue's calls.
 ///
 /// As `run_still` does, which serves the commands that need no threads. `trace` runs each lane of its script in a
-/// thread of its own, and waits for all of them.
+/// thread of its own, and `solve` and `prove` each of their workers; they wait for all of them. The workers tell the
+/// gate each node that they have taken.
 pub fn run<Rt: Threads + Wait + Sync, I: Source, O: Sink, E: Sink, G: Gate>(
     rt: &Rt,
     alloc: Global,
@@ -111,7 +107,8 @@ pub fn run<Rt: Threads + Wait + Sync, I: Source, O: Sink, E: Sink, G: Gate>(
 /// Runs the command that the words say, where a queue of several callers is of this kind, with this gate.
 ///
 /// As `run_still` does, which serves the commands that need no threads. `trace` runs each lane of its script in a
-/// thread of its own, and waits for all of them.
+/// thread of its own, and `solve` and `prove` each of their workers; they wait for all of them. The workers tell the
+/// gate each node that they have taken.
 pub fn run_on<Rt: Threads + Wait + Sync, H: BoundedQueue, I: Source, O: Sink, E: Sink>(
     rt: &Rt,
     alloc: Global,
@@ -121,6 +118,8 @@ pub fn run_on<Rt: Threads + Wait + Sync, H: BoundedQueue, I: Source, O: Sink, E:
     faults: &mut E,
     gate: H::Gate,
 ) -> Status
+where
+    H::Gate: Copy,
     requires heap { (H.SEATS ≡ max_seats) × (H.CAPACITY ≡ max_capacity) }
     // The words came to a status, with these marks in the input and the output, and it was reported.
     ensures ran { IsRunAndReported (command_of (texts words.now)) result
@@ -150,17 +149,33 @@ fn run_words_on<Rt: Threads + Wait + Sync, H: BoundedQueue, I: Source, O: Sink>(
     output: &mut O,
     gate: H::Gate,
 ) -> Status
+where
+    H::Gate: Copy,
     requires heap { (H.SEATS ≡ max_seats) × (H.CAPACITY ≡ max_capacity) }
     ensures { IsRun (command_of (texts words.now)) result
         (change I.left I.faults input.old input.new)
         (change O.written O.faults output.old output.new) }
 {
-    let command = match read_words(alloc, words) {
-        Ok(command) => command,
-        Err(refusal) => return Status::from(refusal),
-    };
-    match respond_on::<Rt, H, I>(rt, alloc, command, input, gate) {
-        Ok(made) => write_answer(output, &made),
+    match read_words(alloc, words) {
+        Ok(command) => {
+            write_made(
+                respond_on::<Rt, H, I>(rt, alloc, command, input, gate),
+                output,
+            )
+        }
+        Err(refusal) => Status::from(refusal),
+    }
+}
+
+// Writes what a command came to, and gives the status that it ends with.
+fn write_made<O: Sink>(made: Result<Answer, Refusal>, output: &mut O) -> Status
+    requires { IfOk made IsWritable }
+    ensures { MatchResult made
+        (λ a. IsWritten (text_in a) (status_in a) result (change O.written O.faults output.old output.new))
+        (λ r. (result ≡ status_of r) × IsSame (change O.written O.faults output.old output.new)) }
+{
+    match made {
+        Ok(answer) => write_answer(output, &answer),
         Err(refusal) => Status::from(refusal),
     }
 }

@@ -1,16 +1,22 @@
 //! Runs of the top call over memory.
 
-use crate::{Status, run_still};
+use crate::{Status, run, run_still};
+use pq_api::Gate;
 use pq_io::{MemorySink, MemorySource};
 use std::alloc::{AllocError, Global};
 use std::process::Abort;
+use std::sync::Wait;
 use std::test::Fail;
+use std::thread::Threads;
 
 mod answers;
 mod lanes;
 mod refusals;
+mod workers;
 
 const THREE_ITEMS: &str = "3 5\n2 3\n3 4\n4 5\n";
+
+const THREE_BY_THREE: &str = "3 3\n0 3 1 2 2 2\n0 2 2 1 1 4\n1 4 2 3 0 0\n";
 
 // Which calls of the input, the output and the faults fail.
 #[derive(Drop)]
@@ -32,6 +38,43 @@ fn owned(alloc: Global, words: &[&str]) -> Result<Vec<String>, AllocError> {
         all.push(String::from_str(alloc, word)?)?;
     }
     Ok(all)
+}
+
+// What a call with threads came to: the status, the output and the faults.
+#[derive(Drop)]
+struct Ran {
+    status: Status,
+    output: MemorySink,
+    faults: MemorySink,
+}
+
+// Runs the words on the input with this gate.
+fn run_with<Rt: Threads + Wait + Sync, G: Gate>(
+    rt: &Rt,
+    alloc: Global,
+    words: &[&str],
+    input: &str,
+    gate: &G,
+) -> Result<Ran, Fail> {
+    let words = owned(alloc, words)?;
+    let bytes = Vec::from_slice(alloc, input.as_bytes())?;
+    let mut source = MemorySource::new(bytes, vec![in alloc; NONE.reads]?);
+    let mut output = MemorySink::new(alloc, 200, vec![in alloc; NONE.writes]?)?;
+    let mut faults = MemorySink::new(alloc, 200, vec![in alloc; NONE.lines]?)?;
+    let status = run(
+        rt,
+        alloc,
+        &words,
+        &mut source,
+        &mut output,
+        &mut faults,
+        gate,
+    );
+    Ok(Ran {
+        status,
+        output,
+        faults,
+    })
 }
 
 // Runs the words on the input, where these calls fail, and compares the status, the output, the line in the faults and

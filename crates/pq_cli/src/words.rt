@@ -6,4 +6,4 @@ mod reading;
 mod settings;
 
 pub use laws::settings_are_said;
-pub use reading::{WordsRefusal, read_words, still_alone};
+pub use reading::{WordsRefusal, read_still_words, read_words};

@@ -1,32 +1,70 @@
 //! `prove`: a best choice of a knapsack, and the proof that no choice has more.
 
-ghost use Rattle.std.specs.Prelude.{◌≡◌};
-ghost use Rattle.pq_cli.specs.CommandWords.{AreLimits};
+ghost use Rattle.std.specs.Prelude.{◌≡◌, ℕ, List, IfOk, Ok};
+ghost use Rattle.pq_model.specs.Limits.{max_capacity};
+ghost use Rattle.pq_io.specs.Reading.{Gives};
+ghost use Rattle.inst_text.specs.Knapsack.{knapsack_of};
+ghost use Rattle.bb_knap.specs.Branching.{meaning_of};
+ghost use Rattle.pq_cli.specs.declared.limits.Limits.{Limits};
+ghost use Rattle.pq_cli.specs.CommandWords.{AreWithin};
 ghost use Rattle.pq_cli.specs.Commands.{proving};
 ghost use Rattle.pq_cli.specs.Refusals.{made_of};
-ghost use Rattle.pq_cli.specs.Work.{Meets};
+ghost use Rattle.pq_cli.specs.Using.{IsBestPlan};
+ghost use Rattle.pq_cli.specs.Work.{Meets, IsPlanned};
 
 use crate::answer::Answer;
-use crate::commands::solve::best_plan;
+use crate::limits::Limits;
+use crate::planning::{best_plan_alone, best_plan_on};
+use crate::problem::UsedProblem;
 use crate::refusal::Refusal;
 use crate::status::Status;
 use bb_knap::Knapsack;
 use bb_problem::Problem;
 use bb_proof::{Made, Proof, write_proof};
-use inst_text::{Claimed, read_knapsack};
+use inst_text::{Choice, Claimed};
+use pq_api::BoundedQueue;
 use std::alloc::Global;
+use std::sync::Wait;
+use std::thread::Threads;
 
 /// The text of a best choice of the knapsack that the bytes read as, found by a search over a plain queue, and of the
 /// canonical proof that no choice has more.
-pub fn prove(alloc: Global, bytes: &[u8], nodes: u32, capacity: u32) -> Result<Answer, Refusal>
-    requires { AreLimits nodes capacity }
-    ensures { Meets (proving nodes capacity) bytes.now result }
+pub fn prove(alloc: Global, bytes: &[u8], limits: Limits) -> Result<Answer, Refusal>
+    requires { AreWithin 1 max_capacity limits }
+    ensures { Meets (proving limits) bytes.now result }
 {
-    let items = read_knapsack(alloc, bytes)?;
-    let knapsack = Knapsack::new(alloc, items)?;
-    let choice = best_plan(alloc, &knapsack, nodes, capacity)?;
+    let knapsack = Knapsack::read(alloc, bytes)?;
+    let choice = best_plan_alone(alloc, &knapsack, limits)?;
+    proved(alloc, &knapsack, choice)
+}
+
+/// The same, found by a search over a queue of this kind.
+pub fn prove_on<Rt: Threads + Wait + Sync, Q: BoundedQueue>(
+    rt: &Rt,
+    alloc: Global,
+    bytes: &[u8],
+    limits: Limits,
+    gate: Q::Gate,
+) -> Result<Answer, Refusal>
+where
+    Q::Gate: Copy,
+    requires { AreWithin Q.SEATS Q.CAPACITY limits }
+    ensures { Meets (proving limits) bytes.now result }
+{
+    let knapsack = Knapsack::read(alloc, bytes)?;
+    let choice = best_plan_on::<Rt, Q, Knapsack>(rt, alloc, &knapsack, limits, gate)?;
+    proved(alloc, &knapsack, choice)
+}
+
+// The text of a best choice, and of the canonical proof that no choice has more.
+fn proved(alloc: Global, knapsack: &Knapsack, choice: Choice) -> Result<Answer, Refusal>
+    requires { IsBestPlan (meaning_of knapsack.now) choice }
+    ensures { (limits : Limits) (bytes : List ℕ) → knapsack_of bytes ≡ Ok knapsack.now
+        → IsPlanned (meaning_of knapsack.now) limits (Ok choice)
+        → Meets (proving limits) bytes result }
+{
     let cost = knapsack.cost(&choice);
-    let proof = made_of(bb_proof::prove(alloc, &knapsack, cost))?;
+    let proof = made_of(bb_proof::prove(alloc, knapsack, cost))?;
     let claimed = Claimed {
         stated: knapsack.value_of(&choice),
         plan: choice,

@@ -1,62 +1,61 @@
 //! `solve`: a plan that no feasible plan betters.
 
-ghost use Rattle.std.specs.Prelude.{◌≡◌};
-ghost use Rattle.pq_cli.specs.CommandWords.{AreLimits};
+ghost use Rattle.std.specs.Prelude.{◌≡◌, ℕ, List, Ok};
+ghost use Rattle.pq_model.specs.Limits.{max_capacity};
+ghost use Rattle.pq_cli.specs.declared.limits.Limits.{Limits};
+ghost use Rattle.pq_cli.specs.CommandWords.{AreWithin};
 ghost use Rattle.pq_cli.specs.Commands.{solving};
-ghost use Rattle.pq_cli.specs.Refusals.{plan_of};
 ghost use Rattle.pq_cli.specs.Work.{Meets, IsPlanned};
 
 use crate::answer::Answer;
-use crate::plain::plain_pass;
+use crate::limits::Limits;
+use crate::planning::{best_plan_alone, best_plan_on};
 use crate::problem::UsedProblem;
 use crate::refusal::Refusal;
 use crate::status::Status;
-use bb_pool::{Outcome, search_plain};
-use bb_problem::Problem;
+use pq_api::BoundedQueue;
 use std::alloc::Global;
+use std::sync::Wait;
+use std::thread::Threads;
 
 /// The text of a best plan of the instance that the bytes read as, found by a search over a plain queue.
-pub fn solve<P: UsedProblem>(
-    alloc: Global,
-    bytes: &[u8],
-    nodes: u32,
-    capacity: u32,
-) -> Result<Answer, Refusal>
-    requires { AreLimits nodes capacity }
-    ensures { Meets (solving P.meaning P.texts nodes capacity) bytes.now result }
+pub fn solve<P: UsedProblem>(alloc: Global, bytes: &[u8], limits: Limits) -> Result<Answer, Refusal>
+    requires { AreWithin 1 max_capacity limits }
+    ensures { Meets (solving P.meaning P.texts limits) bytes.now result }
 {
     let problem = P::read(alloc, bytes)?;
-    let plan = best_plan(alloc, &problem, nodes, capacity)?;
-    let text = problem.plan_text(alloc, &plan)?;
+    let plan = best_plan_alone(alloc, &problem, limits)?;
+    solved(alloc, &problem, &plan)
+}
+
+/// The text of a best plan of the instance that the bytes read as, found by a search over a queue of this kind.
+pub fn solve_on<Rt: Threads + Wait + Sync, Q: BoundedQueue, P: UsedProblem>(
+    rt: &Rt,
+    alloc: Global,
+    bytes: &[u8],
+    limits: Limits,
+    gate: Q::Gate,
+) -> Result<Answer, Refusal>
+where
+    Q::Gate: Copy,
+    requires { AreWithin Q.SEATS Q.CAPACITY limits }
+    ensures { Meets (solving P.meaning P.texts limits) bytes.now result }
+{
+    let problem = P::read(alloc, bytes)?;
+    let plan = best_plan_on::<Rt, Q, P>(rt, alloc, &problem, limits, gate)?;
+    solved(alloc, &problem, &plan)
+}
+
+// The text of a best plan.
+fn solved<P: UsedProblem>(alloc: Global, problem: &P, plan: &P::Plan) -> Result<Answer, Refusal>
+    requires { (P.meaning problem.now).is_feasible plan.now }
+    ensures { (limits : Limits) (bytes : List ℕ) → P.texts.instance_of bytes ≡ Ok problem.now
+        → IsPlanned (P.meaning problem.now) limits (Ok plan.now)
+        → Meets (solving P.meaning P.texts limits) bytes result }
+{
+    let text = problem.plan_text(alloc, plan)?;
     Ok(Answer::Text {
         status: Status::Ok,
         text,
     })
-}
-
-/// A plan that no feasible plan betters, found by a search over a plain queue.
-#[tactic(auto, using(crate::proofs::Planned::planned))]
-pub fn best_plan<P: Problem>(
-    alloc: Global,
-    problem: &P,
-    nodes: u32,
-    capacity: u32,
-) -> Result<P::Plan, Refusal>
-    requires { AreLimits nodes capacity }
-    ensures { IsPlanned (P.meaning problem.now) nodes capacity result }
-{
-    let pass = plain_pass(alloc, capacity)?;
-    plan_of(search_plain(alloc, problem, pass, nodes))
-}
-
-// The plan that a search ended with, or why it has none.
-fn plan_of<P: Drop>(outcome: Outcome<P>) -> Result<P, Refusal>
-    ensures { result ≡ plan_of outcome }
-{
-    match outcome {
-        Outcome::Best { plan, .. } => Ok(plan),
-        Outcome::NodeLimit { asked, limit } => Err(Refusal::NodeLimit { asked, limit }),
-        Outcome::Full { place } => Err(Refusal::Full { place }),
-        Outcome::NoMemory => Err(Refusal::NoMemory),
-    }
 }

@@ -1,10 +1,12 @@
 //! What a command may ask of a problem.
 
-/// What is to be done with a problem.
+use crate::limits::Limits;
+
+/// What is to be done with a problem, where that needs no threads.
 #[derive(Clone, Copy, Debug)]
 pub enum Task {
-    /// Search for a best plan, under a node limit, on a queue of this capacity.
-    Solve { nodes: u32, capacity: u32 },
+    /// Search for a best plan on a plain queue, within these limits.
+    Solve(Limits),
     /// Bound the root.
     Bound,
     /// Judge a plan.

@@ -1,6 +1,6 @@
 //! A command's answer each, and each of the two verdicts.
 
-use super::{NONE, THREE_ITEMS, expect};
+use super::{NONE, THREE_BY_THREE, THREE_ITEMS, expect};
 use crate::Status;
 use std::test::Fail;
 
@@ -9,8 +9,6 @@ const TRUE_HISTORY: &str = "seats 1 capacity 1024\n0 1 + 5 1 done\n1 1 + 3 2 don
 
 const WRONG_ORDER: &str = "seats 1 capacity 4\n0 1 + 5 1 done\n1 1 + 3 2 done\n\
     2 1 - got 5 1\n3 1 - got 3 2\nleft 0\n";
-
-const THREE_BY_THREE: &str = "3 3\n0 3 1 2 2 2\n0 2 2 1 1 4\n1 4 2 3 0 0\n";
 
 // On machine 1 the first two jobs have head 5, time 5 and tail 5.
 const TWO_ON_ONE: &str = "3 3\n0 5 1 5 2 5\n2 5 1 5 0 5\n1 1 0 0 2 0\n";

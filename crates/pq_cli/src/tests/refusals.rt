@@ -28,15 +28,23 @@ fn names_the_first_fault(rt: HostRuntime) -> Result<(), Fail> {
             (status, "", reported),
         )?;
     }
-    let wanted = (Status::BadWords, "", "bad words\n");
-    expect(
-        &rt,
-        rt.alloc(),
-        &["audit", "--"],
-        THREE_ITEMS,
-        &NONE,
-        wanted,
-    )
+    Ok(())
+}
+
+// The words of no command, and those of commands that need threads.
+#[test]
+fn refuses_words_that_it_does_not_serve(rt: HostRuntime) -> Result<(), Fail> {
+    for words in [
+        "audit --",
+        "solve knapsack",
+        "prove knapsack --queue hunt",
+        "trace",
+    ] {
+        let split: Vec<&str> = words.split(' ').collect(rt.alloc())?;
+        let wanted = (Status::BadWords, "", "bad words\n");
+        expect(&rt, rt.alloc(), &split, THREE_ITEMS, &NONE, wanted)?;
+    }
+    Ok(())
 }
 
 // Three items in a bag of five: the root and its two children are made first, six nodes in all.

@@ -2,8 +2,10 @@
 
 ghost use Rattle.std.specs.Prelude.{◌≡◌, ◌<◌, ◌≤◌, [], ◌∷◌, length, IfOk, IfSome, MatchOption};
 ghost use Rattle.pq_cli.specs.Words.{settings_from, is_unlimited, is_unmade, is_silent};
-ghost use Rattle.pq_cli.specs.CommandWords.{HasLimits, IsStill, still_alone, answer_of, command_of, texts, within};
-ghost use Rattle.pq_cli.specs.CommandWords.{branching_for, searched, solve_from, kind_alone};
+ghost use Rattle.pq_cli.specs.CommandWords.{HasLimits, IsStill, still_alone, still_command_of, answer_of};
+ghost use Rattle.pq_cli.specs.CommandWords.{command_of, texts, within};
+ghost use Rattle.pq_cli.specs.CommandWords.{branching_for, most_workers, default_workers, workers_for};
+ghost use Rattle.pq_cli.specs.CommandWords.{solve_from, kind_alone};
 ghost use Rattle.pq_cli.specs.CommandWords.{bound_from, check_from, prove_from, verify_from, trace_from, audit_from};
 ghost use Rattle.pq_cli.specs.CommandWords.{size_for, make_from, IsMadeSize};
 
@@ -12,7 +14,7 @@ use crate::words::options::{pair_name, with_lone, with_option};
 use crate::words::settings::Settings;
 use bb_pool::MAX_NODES;
 use inst_text::{MAX_ITEMS, MAX_MADE_SHOP};
-use pq_model::MAX_CAPACITY;
+use pq_model::{MAX_CAPACITY, MAX_SEATS};
 use std::alloc::Global;
 
 /// How many nodes a search may make where it is not said.
@@ -20,6 +22,9 @@ const DEFAULT_NODES: u64 = 100_000;
 
 /// How many entries a traced queue takes where it is not said.
 const DEFAULT_CAPACITY: u64 = 1_024;
+
+/// The queue where none is said.
+const DEFAULT_QUEUE: Which = Which::Hunt;
 
 /// The seed of what is made where it is not said.
 const DEFAULT_SEED: u64 = 0;
@@ -50,14 +55,31 @@ pub fn read_words(_alloc: Global, words: &[String]) -> Result<Command, WordsRefu
     command_of(words).ok_or(WordsRefusal::BadWords)
 }
 
-/// The command, where it needs no threads.
-pub fn still_alone(command: Command) -> Option<Command>
+/// The same of the commands that need no threads: words that say another are bad words.
+pub fn read_still_words(alloc: Global, words: &[String]) -> Result<Command, WordsRefusal>
+    ensures exact { result ≡ answer_of (still_command_of (texts words.now)) }
+    ensures limits { IfOk result HasLimits }
+    ensures still { IfOk result IsStill }
+{
+    still_alone(read_words(alloc, words)?).ok_or(WordsRefusal::BadWords)
+}
+
+// The command, where it needs no threads.
+fn still_alone(command: Command) -> Option<Command>
     ensures exact { result ≡ still_alone command }
     ensures still { IfSome result IsStill }
     ensures same { IfSome result (λ c. c ≡ command) }
 {
     match command {
-        Command::Trace {
+        Command::Solve {
+            queue: Which::Hunt,
+            ..
+        }
+        | Command::Prove {
+            queue: Which::Hunt,
+            ..
+        }
+        | Command::Trace {
             queue: Which::Hunt,
             ..
         } => None,
@@ -131,7 +153,7 @@ fn within(low: u64, high: u64, number: u64) -> Option<u64>
     }
 }
 
-// A queue has to be named, since no search runs on the queue of choice yet.
+// A problem, and what a search on the queue may have.
 #[tactic(auto, unfolding(crate::specs::CommandWords::solve_from))]
 fn solve_from(said: Settings) -> Option<Command>
     ensures exact { result ≡ solve_from said }
@@ -139,8 +161,8 @@ fn solve_from(said: Settings) -> Option<Command>
 {
     let kind = said.kind?;
     let branching = branching_for(kind, said.branching)?;
-    let queue = searched(said.queue?)?;
-    let workers = within(1, 1, said.workers.unwrap_or(1))?;
+    let queue = said.queue.unwrap_or(DEFAULT_QUEUE);
+    let workers = workers_for(queue, said.workers)?;
     let nodes = within(1, u64::from(MAX_NODES), said.nodes.unwrap_or(DEFAULT_NODES))?;
     let capacity = within(
         workers,
@@ -161,13 +183,35 @@ fn solve_from(said: Settings) -> Option<Command>
     }
 }
 
-// The queues that a search runs on.
-fn searched(queue: Which) -> Option<Which>
-    ensures { result ≡ searched queue }
+// The greatest number of workers on a queue.
+fn most_workers(queue: Which) -> u64
+    ensures { result ≡ most_workers queue }
 {
     match queue {
-        Which::Plain => Some(Which::Plain),
-        Which::Hunt => None,
+        Which::Plain => 1,
+        Which::Hunt => u64::from(MAX_SEATS),
+    }
+}
+
+// The workers that are said for a search on a queue.
+fn workers_for(queue: Which, said: Option<u64>) -> Option<u64>
+    ensures exact { result ≡ workers_for queue said }
+    ensures range { IfSome result (λ n. (1 ≤ n) × (n ≤ most_workers queue)) }
+{
+    within(
+        1,
+        most_workers(queue),
+        said.unwrap_or(default_workers(queue)),
+    )
+}
+
+// How many workers a search has on a queue where it is not said.
+fn default_workers(queue: Which) -> u64
+    ensures { result ≡ default_workers queue }
+{
+    match queue {
+        Which::Plain => 1,
+        Which::Hunt => 4,
     }
 }
 
@@ -276,7 +320,7 @@ fn trace_from(said: Settings) -> Option<Command>
     ensures exact { result ≡ trace_from said }
     ensures limits { IfSome result HasLimits }
 {
-    let queue = said.queue.unwrap_or(Which::Hunt);
+    let queue = said.queue.unwrap_or(DEFAULT_QUEUE);
     let capacity = said.capacity.unwrap_or(DEFAULT_CAPACITY);
     let capacity = within(1, u64::from(MAX_CAPACITY), capacity)?;
     if said.kind.is_none()

@@ -22,7 +22,7 @@ some_token tree cost zero name = omega arith
 some_token tree cost (suc more) name = some_of (nat_le cost (tree.bound name)) (flat_map (λ k. canonical_from tree cost more (below name k)) (tree.children name))
 
 pub returns : goal.returns
-returns c = λ nodes capacity bytes text s size.
+returns c = λ limits bytes text s size.
     let i = s.instance in
     let value : ℕ = value_of i.items s.choice in
     let claimed : Claimed (List ℕ) = record { stated = value; plan = s.choice } in

@@ -1,0 +1,22 @@
+-- The commands that use a queue of several callers.
+use Rattle.std.proofs.Common.{◌≡◌, refl, ℕ, Some}
+use Rattle.pq_model.specs.Limits.{max_seats, max_capacity}
+use Rattle.pq_cli.specs.declared.command.Command.{Command}
+use Rattle.pq_cli.specs.declared.command.Command.TheVariants.{Solve, Bound, Check, Prove, Verify, Trace, Audit}
+use Rattle.pq_cli.specs.declared.command.Which.TheVariants.{Plain, Hunt}
+use Rattle.pq_cli.specs.CommandWords.{queue_of, HasLimits, IsShared}
+
+-- what uses the heap is within the limits of a queue that has the heap's
+pub hunt_is_shared : (callers most : ℕ) (c : Command) → (callers ≡ max_seats) × (most ≡ max_capacity) → HasLimits c →
+    queue_of c ≡ Some Hunt → IsShared callers most c
+hunt_is_shared callers most (Solve kind branching Hunt workers nodes capacity) heap limits is =
+    rw heap.0 (rw heap.1 limits)
+hunt_is_shared callers most (Solve kind branching Plain workers nodes capacity) heap limits is = absurd (cc)
+hunt_is_shared callers most (Prove Hunt workers nodes capacity) heap limits is = rw heap.0 (rw heap.1 limits)
+hunt_is_shared callers most (Prove Plain workers nodes capacity) heap limits is = absurd (cc)
+hunt_is_shared callers most (Trace Hunt capacity) heap limits is = rw heap.0 (rw heap.1 (limits.0, limits.1, refl))
+hunt_is_shared callers most (Trace Plain capacity) heap limits is = absurd (cc)
+hunt_is_shared callers most (Bound kind branching) heap limits is = absurd (cc)
+hunt_is_shared callers most (Check kind) heap limits is = absurd (cc)
+hunt_is_shared callers most Verify heap limits is = absurd (cc)
+hunt_is_shared callers most Audit heap limits is = absurd (cc)
