@@ -3,7 +3,7 @@ ghost use Rattle.std.specs.Prelude.{◌≡◌, ◌≤◌, true, Contains, IfSome
 ghost use Rattle.pq_seats.specs.Passes.{view_of, Belongs};
 ghost use Rattle.pq_pool.specs.Layout.{builder_word, first_chunk};
 ghost use Rattle.pq_pool.specs.States.{IsLive};
-ghost use Rattle.pq_pool.specs.Passes.{pool_of, HoldsBuilder, StaysSeated, AgreesAt};
+ghost use Rattle.pq_pool.specs.Passes.{pool_of, HoldsBuilder, AgreesAt};
 ghost use Rattle.pq_pool.specs.Bench.{bench_pool, IsLoose};
 
 use crate::{Bench, BenchPass, pin, still_stands, take};
