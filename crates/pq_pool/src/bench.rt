@@ -84,7 +84,7 @@ impl Bench {
     }
 
     /// Tries to take the builder's word, by one exchange. The seat has no pin. The answer is true exactly where the
-    /// word read was 0. Where it is false, the view has read one word more, which was not 0.
+    /// word read was 0. In both cases the view has read further.
     pub fn try_hold(shared: &Shared<Bench>, pass: &mut BenchPass) -> bool
         requires wide { first_chunk ≤ shared.now.words }
         requires loose { IsLoose shared.now pass.old }

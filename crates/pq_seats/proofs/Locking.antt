@@ -120,7 +120,7 @@ module _ {O : Type 0} (R : Rule O) (k : Limits) where
             (λ e. (id, w, put_here s.views id v w at, (0, omega arith, sym e)))
             (λ d. holder_keep R k s h id v w at (λ i has. in_later word i v.post.locks has) l lock (λ z. ne (get_or-set_other s.words word l n 0 d ∙ z))))
             t.2),
-        ((λ _. record { own = t.0; taken = t.1; post = refl; lanes = refl; front = refl; limits = refl }), (λ not. absurd (not hit)), refl),
+        ((λ _. record { read = refl; more = omega arith; own = t.0; taken = t.1; post = refl; lanes = refl; front = refl; limits = refl }), (λ not. absurd (not hit)), refl),
       ))
       (λ miss.
       let w : View O = with_read v x in
@@ -204,8 +204,10 @@ module _ {O : Type 0} (R : Rule O) (k : Limits) where
   pub may_still : (id : ℕ) (v w : View O) (i : ℕ) → IsAlike v w → MayTake R k id v i → MayTake R k id w i
   may_still id v w i e may u same = may u (alike_more v w u e same)
 
-  pub took_still : (u v w : View O) (i : ℕ) → IsAlike u v → Took R v w i → Took R u w i
-  took_still u v w i e t = record {
+  pub took_still : (u v w : View O) (i : ℕ) → IsAlike u v → u.reads ≤ v.reads → Took R v w i → Took R u w i
+  took_still u v w i e le t = record {
+    read = t.read;
+    more = let further = t.more in omega arith;
     own = t.own;
     taken = subst (λ (z : Limits). R.taken z u.post.own i t.own) e.limits (subst (λ (z : Post O). R.taken v.limits z.own i t.own) e.post t.taken);
     post = t.post ∙ ap (λ (z : Post O). with_lock z i t.own) e.post;

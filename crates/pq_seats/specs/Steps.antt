@@ -49,8 +49,10 @@ module _ {O : Type 0} (R : Rule O) where
   abbrev pub Informed : View O → Type 0
   Informed v = Knows v.limits.seats v.limits.capacity (known_of v)
 
-  -- The seat took the lock word, or found it taken
+  -- The seat read 0, and took the lock word. Or it read another number, and holds what it held. Both have read further
   pub record Took (v w : View O) (i : ℕ) : Type 0 where
+    pub read : w.read ≡ 0
+    pub more : v.reads < w.reads
     pub own : O
     pub taken : R.taken v.limits v.post.own i own
     pub post : w.post ≡ with_lock v.post i own

@@ -10,8 +10,8 @@ use crossbeam_utils::Backoff;
 use std::sync::Wait;
 
 impl<R: SeatRule> Shared<R> {
-    /// Tries to take a lock by one exchange. The answer is true exactly where the word read was 0; the word then has
-    /// the number of this seat. Where it is false, the view has read one word more, which was not 0.
+    /// Tries to take a lock by one exchange. The answer is true exactly where the word read was 0, by `read` of both
+    /// answers; the word then has the number of this seat. In both cases the view has read further.
     pub fn try_lock(&self, pass: &mut SeatPass<R>, word: u32) -> bool
         requires own { Belongs self.now pass.old }
         requires lock { (R.rule.locks (limits_of self.now) word ≡ true) × (word < self.now.words) }

@@ -1,4 +1,4 @@
-use Rattle.std.proofs.Common.{◌≡◌}
+use Rattle.std.proofs.Common.{◌≡◌, ◌≤◌}
 use Rattle.pq_seats.specs.Views.{IsAlike}
 use Rattle.pq_seats.specs.Seats.{Sits}
 use Rattle.pq_seats.proofs.shared.Shared.lock.Given as goal
@@ -10,4 +10,5 @@ invariant-loop g l = record {
   lanes : l.pass.lanes ≡ l.initial.pass.lanes;
   id : l.pass.seat.id ≡ l.initial.pass.seat.id;
   alike : IsAlike l.initial.pass.seat.me.0 l.pass.seat.me.0;
+  reads : l.initial.pass.seat.me.0.reads ≤ l.pass.seat.me.0.reads;
 }
