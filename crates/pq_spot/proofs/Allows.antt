@@ -1,5 +1,5 @@
 -- The steps of the spot are allowed.
-use Rattle.std.proofs.Common.{◌≡◌, ◌≢◌, ◌⊎◌, Some, None, ℕ, zero, suc, ◌+◌, ◌-◌, ◌<◌, ◌≤◌, Bool, true, false, cond, eqb, List, [], ◌∷◌, ◌++◌, map, length, get_or, set, min, eq-eqb, refl, ap, ◌∙◌, sym, subst, inl, inr, ⊎_elim, arith, Contains}
+use Rattle.std.proofs.Common.{◌≡◌, ◌≢◌, Some, None, ℕ, zero, suc, ◌+◌, ◌-◌, ◌<◌, ◌≤◌, Bool, true, false, cond, eqb, List, [], ◌∷◌, ◌++◌, map, length, get_or, set, min, eq-eqb, refl, ap, ◌∙◌, sym, subst, inl, inr, ⊎_elim, arith, Contains}
 use Rattle.std.proofs.Common.{get_or-set_same, get_or-set_other}
 use Rattle.std.specs.Prelude.{MatchBool}
 use mathlib.Core.Option.{some, none, some-injective, some-ne-none}
@@ -11,13 +11,11 @@ use Rattle.atomic_table.proofs.Lists.{at_set, at_map}
 use Rattle.pq_words.specs.declared.entries.Entry.{Entry}
 use Rattle.pq_model.specs.declared.marks.Act.{Act}
 use Rattle.pq_model.specs.declared.marks.Act.TheVariants.{Insert, Remove}
-use Rattle.pq_model.specs.declared.marks.Mark.{Mark}
 use Rattle.pq_model.specs.History.{IsSeat, IsLegalFrom, left_from, left}
 use Rattle.pq_model.specs.Limits.{max_seats}
 use Rattle.pq_model.specs.Passes.{lane, calls_of}
 use Rattle.pq_api.specs.Limits.{call_limit}
 use Rattle.pq_seats.specs.declared.views.Limits.{Limits}
-use Rattle.pq_seats.specs.declared.views.Post.{Post}
 use Rattle.pq_seats.specs.declared.views.View.{View}
 use Rattle.pq_seats.specs.Views.{post_of, empty_post, known_of, with_post}
 use Rattle.pq_seats.specs.Letters.{owed_count, letter_count, without}
@@ -34,7 +32,7 @@ use Rattle.pq_seats.proofs.Lengths.{few_marks}
 use Rattle.pq_spot.specs.declared.views.SpotPart.{SpotPart}
 use Rattle.pq_spot.specs.Spot.{token, idle, part, lock_word, spot_word, held, IsOffered, SpotTied, removal, batch_of, spot_rule, stored_post, offered_post}
 use Rattle.pq_spot.specs.Spot as spot
-use Rattle.pq_spot.specs.Passes.{Goes, IsTried, resting, offering, locking}
+use Rattle.pq_spot.specs.Passes.{IsTried, resting}
 use Rattle.pq_spot.specs.LawsHold.{P, same_letters, offer_on, offer_stays, frame, spot_laws}
 
 abbrev M : Type 0

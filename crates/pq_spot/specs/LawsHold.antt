@@ -1,8 +1,7 @@
 -- The laws of the spot's rule. They stand here since its `impl` names them.
-use Rattle.std.proofs.Common.{◌≡◌, ◌≢◌, Some, None, ℕ, suc, ◌+◌, ◌<◌, ◌≤◌, true, List, [], ◌∷◌, ◌++◌, map, get_or, set, min, refl, ap, ◌∙◌, sym, subst, ⊎_elim, arith, Contains}
+use Rattle.std.proofs.Common.{◌≡◌, ◌≢◌, Some, None, ℕ, suc, ◌+◌, ◌<◌, List, [], ◌∷◌, ◌++◌, map, get_or, set, min, refl, ap, ◌∙◌, sym, subst, ⊎_elim, arith, Contains}
 use Rattle.std.proofs.Common.{eqb-true, get_or-set_other}
 use Rattle.std.proofs.lemmas.List.Sums.{sum_by-append}
-use Rattle.std.specs.Prelude.{Option}
 use mathlib.Core.Option.{some}
 use lib.ListN.{get_elem?}
 use native.Mathlib.Decide.{ℕ_discrete}
@@ -14,7 +13,7 @@ use Rattle.pq_seats.specs.declared.views.Limits.{Limits}
 use Rattle.pq_seats.specs.declared.views.Post.{Post}
 use Rattle.pq_seats.specs.declared.views.View.{View}
 use Rattle.pq_seats.specs.Views.{post_of, empty_post}
-use Rattle.pq_seats.specs.Letters.{owed_count, letter_count, back}
+use Rattle.pq_seats.specs.Letters.{owed_count, letter_count}
 use Rattle.pq_seats.specs.Rules.{Table, Lawful, Holds, Stands}
 use Rattle.pq_seats.proofs.Lists.{not_in, sum_kept, same_at, put_here}
 use Rattle.pq_seats.proofs.Keeps.{number_low}

@@ -1,6 +1,6 @@
 -- The rule of a queue that takes one entry at a time, always the same. Behind the letters it has a lock, and the spot:
 -- 0 where nothing is there, 1 where the entry is in the queue, and n + 1 where the seat n offers it.
-use Rattle.std.specs.Prelude.{◌≡◌, ◌<◌, ◌≤◌, ℕ, zero, suc, ◌==◌, List, [], ◌∷◌, Some, Contains, slice_index}
+use Rattle.std.specs.Prelude.{◌≡◌, ◌≤◌, ℕ, zero, suc, ◌==◌, List, [], ◌∷◌, Some, Contains, slice_index}
 use mathlib.Core.Option.{some}
 use lib.ListN.{get_elem?}
 use Rattle.atomic_table.specs.Table.{Me, Step}

@@ -1,4 +1,4 @@
-use Rattle.std.proofs.Common.{ℕ, suc, [], ap, sym, ◌∙◌, subst}
+use Rattle.std.proofs.Common.{suc, [], ap, sym, ◌∙◌, subst}
 use Rattle.std.specs.Prelude.{Contains}
 use Rattle.pq_words.specs.declared.entries.Entry.{Entry}
 use Rattle.pq_model.specs.declared.marks.Act.TheVariants.{Insert}

@@ -1,4 +1,4 @@
-use Rattle.std.proofs.Common.{◌≡◌, ℕ, suc, ◌-◌, zero, [], List, arith, ap, sym, ◌∙◌, subst}
+use Rattle.std.proofs.Common.{[], ap, sym, subst}
 use Rattle.std.specs.Prelude.{Contains}
 use Rattle.pq_seats.specs.declared.views.Post.{Post}
 use Rattle.pq_seats.proofs.Lists.{in_first}

@@ -1,5 +1,5 @@
-use Rattle.std.proofs.Common.{◌≡◌, ℕ, arith, sym, subst, ◌∙◌}
-use Rattle.pq_spot.specs.Passes.{resting, IsTried}
+use Rattle.std.proofs.Common.{ℕ, arith, sym, subst}
+use Rattle.pq_spot.specs.Passes.{IsTried}
 use Rattle.pq_spot.proofs.Allows.{may_take, tried_is}
 use Rattle.pq_spot.proofs.spot.try_hold.Goals as goal
 

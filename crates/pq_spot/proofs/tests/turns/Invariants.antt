@@ -1,5 +1,5 @@
 -- As many calls were made as two a turn at most.
-use Rattle.std.proofs.Common.{◌≡◌, ◌*◌, ◌≤◌, length}
+use Rattle.std.proofs.Common.{◌*◌, ◌≤◌, length}
 use Rattle.pq_seats.specs.Passes.{known}
 use Rattle.pq_spot.specs.Passes.{Rests}
 use Rattle.pq_spot.proofs.tests.turns.Given as goal
