@@ -9,7 +9,6 @@ use Rattle.pq_cli.specs.declared.refusal.Refusal.TheVariants as refusals
 use Rattle.pq_cli.specs.declared.status.Status.{Status}
 use Rattle.pq_cli.specs.declared.status.Status.TheVariants as statuses
 use Rattle.pq_cli.specs.Answers.{status_in, text_in}
-use Rattle.pq_cli.specs.CommandWords.{answer_of}
 use Rattle.pq_cli.specs.Commands.{duty_of}
 use Rattle.pq_cli.specs.Duties.{Duty, Reads, Writes}
 use Rattle.pq_cli.specs.Refusals.{status_of}
@@ -39,7 +38,7 @@ made_ends duty (Err r) status input output answers stops written =
     inr (inl (record { refusal = r; named = written.0; stops = stops; same = written.1 }))
 
 pub made_run : {I O : Type 0} (said : Option Command) (c : Command) (made : Result Answer Refusal) (status : Status) (input : Change I) (output : Change O) →
-    Ok c ≡ answer_of said → IfOk made (λ a. Answers (duty_of c) (status_in a) (text_in a) input) → IfErr made (Stops (duty_of c) input) →
+    said ≡ Some c → IfOk made (λ a. Answers (duty_of c) (status_in a) (text_in a) input) → IfErr made (Stops (duty_of c) input) →
     MatchResult made (λ a. IsWritten (text_in a) (status_in a) status output) (λ r. (status ≡ status_of r) × IsSame output) →
     IsRun said status input output
 made_run None c made status input output is answers stops written = absurd (cc)
@@ -65,7 +64,10 @@ whole_end duty status input output answered (inr (inr cut)) = absurd (subst IsAn
 
 whole_run : {I O : Type 0} (said : Option Command) (status : Status) (input : Change I) (output : Change O) →
     IsAnswered status → IsRun said status input output → IsAnsweredWhole said status input output
-whole_run None status input output answered ran = absurd (subst IsAnswered ran.bad_words answered)
+whole_run None status input output answered ran = elim ran.cause [
+  | inl bad_words ↦ absurd (subst IsAnswered bad_words answered)
+  | inr no_memory ↦ absurd (subst IsAnswered no_memory answered)
+]
 whole_run (Some c) status input output answered ran =
     record { command = c; is = refl; whole = whole_end (duty_of c) status input output answered ran }
 

@@ -7,3 +7,15 @@ pub mod SayingsRead
 pub mod Traced
 pub mod OneTrace
 pub mod Ending
+pub mod Unread
+pub mod ClapApp
+pub mod ClapRows
+pub mod ClapWords
+pub mod ClapSteps
+pub mod ClapWalk
+pub mod ClapGood
+pub mod ClapFound
+pub mod ClapLevels
+pub mod ClapTop
+pub mod ClapEnd
+pub mod ClapReads

@@ -15,22 +15,22 @@ use Rattle.pq_cli.proofs.WordSteps.{lone_step, pair_step}
 
 -- a word behind two dashes
 
-place : (n v : List ℕ) → HasNoEquals n → position_or_len (λ b. b == 61) (n ++ 61 ∷ v) ≡ length n
+pub place : (n v : List ℕ) → HasNoEquals n → position_or_len (λ b. b == 61) (n ++ 61 ∷ v) ≡ length n
 place [] v h = refl
 place (b ∷ n) v h = rw h.0 (omega (arith, place n v h.1))
 
-nowhere : (n : List ℕ) → HasNoEquals n → position_or_len (λ b. b == 61) n ≡ length n
+pub nowhere : (n : List ℕ) → HasNoEquals n → position_or_len (λ b. b == 61) n ≡ length n
 nowhere [] h = refl
 nowhere (b ∷ n) h = rw h.0 (omega (arith, nowhere n h.1))
 
 longer : (n v : List ℕ) → nat_lt (length n) (length (n ++ 61 ∷ v)) ≡ true
 longer n v = grind (arith, nat_tests, length-append n (61 ∷ v))
 
-take_own : (n v : List ℕ) → take (length n) (n ++ v) ≡ n
+pub take_own : (n v : List ℕ) → take (length n) (n ++ v) ≡ n
 take_own [] v = refl
 take_own (b ∷ n) v = ap (λ xs. b ∷ xs) (take_own n v)
 
-drop_own : (n v : List ℕ) → drop (length n + 1) (n ++ 61 ∷ v) ≡ v
+pub drop_own : (n v : List ℕ) → drop (length n + 1) (n ++ 61 ∷ v) ≡ v
 drop_own [] v = refl
 drop_own (b ∷ n) v =
     let more : suc (length n) + 1 ≡ suc (length n + 1) = omega arith in
@@ -96,7 +96,7 @@ becomes_less read w [] (Some y) after h = absurd h
 becomes_less read w (v ∷ vs) before after h = absurd h
 
 -- a setting is given the value that was read, where it had none
-given : {A : Type 0} (o field : Option A) (build : Option A → Settings) (s : Settings) → (o >>= λ v. once field v >>= λ f. Some (build f)) ≡ Some s →
+pub given : {A : Type 0} (o field : Option A) (build : Option A → Settings) (s : Settings) → (o >>= λ v. once field v >>= λ f. Some (build f)) ≡ Some s →
     (field ≡ None) × (v : A) × (o ≡ Some v) × (s ≡ build (Some v))
 given None field build s h = absurd (cc)
 given (Some v) None build s h = (refl, v, refl, cc)
@@ -105,7 +105,7 @@ given (Some v) (Some y) build s h = absurd (cc)
 giving : {A : Type 0} (o field : Option A) (build : Option A → Settings) (v : A) → field ≡ None → o ≡ Some v → (o >>= λ v. once field v >>= λ f. Some (build f)) ≡ Some (build (Some v))
 giving o field build v none is = rw none (rw is refl)
 
-bound_is : {A B : Type 0} (o : Option A) (f : A → Option B) (y : B) → (o >>= f) ≡ Some y → (x : A) × (o ≡ Some x) × (f x ≡ Some y)
+pub bound_is : {A B : Type 0} (o : Option A) (f : A → Option B) (y : B) → (o >>= f) ≡ Some y → (x : A) × (o ≡ Some x) × (f x ≡ Some y)
 bound_is None f y h = absurd (cc)
 bound_is (Some x) f y h = (x, refl, h)
 
@@ -114,11 +114,11 @@ binding o f x y is h = ap (λ p. p >>= f) is ∙ h
 
 -- what the words say, one thing after the other
 
-abbrev with_saying : Settings → Saying → Option Settings
+abbrev pub with_saying : Settings → Saying → Option Settings
 with_saying said (Named word) = with_kind said word
 with_saying said (Valued name value) = with_option said name value
 
-abbrev with_all : Settings → List Saying → Option Settings
+abbrev pub with_all : Settings → List Saying → Option Settings
 with_all said [] = Some said
 with_all said (saying ∷ sayings) = with_saying said saying >>= λ t. with_all t sayings
 
@@ -152,7 +152,7 @@ choose false false false false false false true x1 x2 x3 x4 x5 x6 x7 y h = inr (
 choose false false false false false false false x1 x2 x3 x4 x5 x6 x7 y h = absurd (cc)
 
 -- an option is one of those that there are
-option_is : (said t : Settings) (name value : List ℕ) → with_option said name value ≡ Some t →
+pub option_is : (said t : Settings) (name value : List ℕ) → with_option said name value ≡ Some t →
     ((name ≡ codes "queue") × (with_queue said value ≡ Some t)) ⊎ (((name ≡ codes "workers") × (with_workers said value ≡ Some t)) ⊎ (((name ≡ codes "nodes") × (with_nodes said value ≡ Some t)) ⊎ (((name ≡ codes "capacity") × (with_capacity said value ≡ Some t)) ⊎ (((name ≡ codes "branching") × (with_branching said value ≡ Some t)) ⊎ (((name ≡ codes "seed") × (with_seed said value ≡ Some t)) ⊎ (((name ≡ codes "size") × (with_size said value ≡ Some t))))))))
 unfolding with_option
 option_is said t name value h = elim (choose (bytes_eq name (codes "queue")) (bytes_eq name (codes "workers")) (bytes_eq name (codes "nodes")) (bytes_eq name (codes "capacity")) (bytes_eq name (codes "branching")) (bytes_eq name (codes "seed")) (bytes_eq name (codes "size"))
@@ -240,7 +240,7 @@ said_option said t s name value sayings h more = elim (option_is said t name val
   | inr (inr (inr (inr (inr (inr (a)))))) ↦ said_size said t s name value sayings a.0 a.1 more
 ]
 
-all_are_settings : (said s : Settings) (sayings : List Saying) → with_all said sayings ≡ Some s → AreSettings sayings said s
+pub all_are_settings : (said s : Settings) (sayings : List Saying) → with_all said sayings ≡ Some s → AreSettings sayings said s
 all_are_settings said s [] h = record { kind = cc; queue = cc; workers = cc; nodes = cc; capacity = cc; branching = cc; seed = cc; size = cc; known = tt }
 all_are_settings said s (Named word ∷ sayings) h =
     let b = bound_is (with_kind said word) (λ t. with_all t sayings) s h in
@@ -342,7 +342,7 @@ option_said : (said s : Settings) (name value : List ℕ) (sayings : List Saying
     (t : Settings) × (with_option said name value ≡ Some t) × AreSettings sayings t s
 option_said said s name value sayings a = option_named said s name value sayings a a.known.0
 
-settings_are_all : (said s : Settings) (sayings : List Saying) → AreSettings sayings said s → with_all said sayings ≡ Some s
+pub settings_are_all : (said s : Settings) (sayings : List Saying) → AreSettings sayings said s → with_all said sayings ≡ Some s
 settings_are_all said s [] a = ap (λ x. Some x) (sym (same_settings s said a.kind a.queue a.workers a.nodes a.capacity a.branching a.seed a.size))
 settings_are_all said s (Named word ∷ sayings) a =
     let b = kind_said said s word sayings a in
@@ -353,15 +353,15 @@ settings_are_all said s (Valued name value ∷ sayings) a =
 
 -- words are read as what they say
 
-named_word : (said : Settings) (word : List ℕ) → behind_dashes word ≡ None → (pair_name word ≡ None) × (with_lone said word ≡ with_kind said word)
+pub named_word : (said : Settings) (word : List ℕ) → behind_dashes word ≡ None → (pair_name word ≡ None) × (with_lone said word ≡ with_kind said word)
 unfolding pair_name with_lone
 named_word said word none = (rw none refl, ap (with_body said word) none)
 
-open_word : (name : List ℕ) → HasNoEquals name → pair_name (45 ∷ 45 ∷ name) ≡ Some name
+pub open_word : (name : List ℕ) → HasNoEquals name → pair_name (45 ∷ 45 ∷ name) ≡ Some name
 unfolding pair_name
 open_word name h = ap (unless_split name) (split_none name h)
 
-whole_word : (said : Settings) (name value : List ℕ) → HasNoEquals name →
+pub whole_word : (said : Settings) (name value : List ℕ) → HasNoEquals name →
     (pair_name (45 ∷ 45 ∷ (name ++ 61 ∷ value)) ≡ None) × (with_lone said (45 ∷ 45 ∷ (name ++ 61 ∷ value)) ≡ with_option said name value)
 unfolding pair_name with_lone
 whole_word said name value h = (ap (unless_split (name ++ 61 ∷ value)) (split_some name value h), ap (with_split said) (split_some name value h))
@@ -373,12 +373,12 @@ record Reads (words : List (List ℕ)) (said s : Settings) : Type 0 where
   pub all : with_all said sayings ≡ Some s
 
 -- what a word is
-data WordIs (word : List ℕ) : Type 0 where
+pub data WordIs (word : List ℕ) : Type 0 where
   IsName : behind_dashes word ≡ None → WordIs word
   IsOpen : (name : List ℕ) → word ≡ 45 ∷ 45 ∷ name → HasNoEquals name → WordIs word
   IsWhole : (name value : List ℕ) → word ≡ 45 ∷ 45 ∷ (name ++ 61 ∷ value) → HasNoEquals name → WordIs word
 
-word_is : (word : List ℕ) → WordIs word
+pub word_is : (word : List ℕ) → WordIs word
 word_is word = elim (dashes word) [
   | inl none ↦ IsName none
   | inr d ↦ elim (parts d.0) [

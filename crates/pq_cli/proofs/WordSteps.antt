@@ -17,7 +17,3 @@ unfolding settings_from
 pair_step said s w v name vs e f =
     ap (λ n. after_two n (with_lone said w >>= λ t. settings_from t (v ∷ vs)) (λ m. with_option said m v >>= λ t. settings_from t vs)) e
     ∙ ap (λ o. o >>= λ t. settings_from t vs) f
-
--- the same of words that are these
-pub pair_words : (said s : Settings) (ws us vs : List (List ℕ)) (w v name : List ℕ) → ws ≡ w ∷ us → us ≡ v ∷ vs → pair_name w ≡ Some name → with_option said name v ≡ Some s → settings_from said ws ≡ settings_from s vs
-pair_words said s ws us vs w v name e f g h = ap (settings_from said) (e ∙ ap (λ xs. w ∷ xs) f) ∙ pair_step said s w v name vs g h

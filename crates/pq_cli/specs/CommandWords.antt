@@ -19,7 +19,7 @@ use Rattle.pq_cli.specs.declared.commands.task.Task.{Task}
 use Rattle.pq_cli.specs.declared.commands.task.Task.TheVariants as tasks
 use Rattle.pq_cli.specs.declared.limits.Limits.{Limits}
 use Rattle.pq_cli.specs.declared.words.reading.WordsRefusal.{WordsRefusal}
-use Rattle.pq_cli.specs.declared.words.reading.WordsRefusal.TheVariants.{BadWords}
+use Rattle.pq_cli.specs.declared.words.reading.WordsRefusal.TheVariants.{BadWords, NoMemory}
 use Rattle.pq_cli.specs.declared.words.settings.Settings.{Settings}
 use Rattle.pq_cli.specs.Tracing.{lanes_on}
 use Rattle.pq_cli.specs.Words.{◌>>=◌, option_limit, settings_from, is_unlimited, is_unmade, is_silent}
@@ -147,19 +147,23 @@ nothing = record {
   size = None;
 }
 
+-- the command of this name with these settings
+abbrev pub command_from : List ℕ → Settings → Option Command
+command_from name said =
+    if bytes_eq name (codes "solve") then solve_from said
+    else if bytes_eq name (codes "bound") then bound_from said
+    else if bytes_eq name (codes "check") then check_from said
+    else if bytes_eq name (codes "prove") then prove_from said
+    else if bytes_eq name (codes "verify") then verify_from said
+    else if bytes_eq name (codes "trace") then trace_from said
+    else if bytes_eq name (codes "audit") then audit_from said
+    else if bytes_eq name (codes "make") then make_from said
+    else None
+
 -- The command that the words say; None where no command reads them.
 unfoldable pub command_of : List (List ℕ) → Option Command
 command_of [] = None
-command_of (name ∷ words) =
-    if bytes_eq name (codes "solve") then settings_from nothing words >>= solve_from
-    else if bytes_eq name (codes "bound") then settings_from nothing words >>= bound_from
-    else if bytes_eq name (codes "check") then settings_from nothing words >>= check_from
-    else if bytes_eq name (codes "prove") then settings_from nothing words >>= prove_from
-    else if bytes_eq name (codes "verify") then settings_from nothing words >>= verify_from
-    else if bytes_eq name (codes "trace") then settings_from nothing words >>= trace_from
-    else if bytes_eq name (codes "audit") then settings_from nothing words >>= audit_from
-    else if bytes_eq name (codes "make") then settings_from nothing words >>= make_from
-    else None
+command_of (name ∷ words) = settings_from nothing words >>= command_from name
 
 -- the queue that a command uses, if any
 abbrev pub queue_of : Command → Option Which
@@ -192,10 +196,11 @@ still_alone c = Some c
 abbrev pub still_command_of : List (List ℕ) → Option Command
 still_command_of words = command_of words >>= still_alone
 
--- what reading the words answers, where it takes no memory
-abbrev pub answer_of : Option Command → Result Command WordsRefusal
-answer_of (Some command) = Ok command
-answer_of None = Err BadWords
+-- What reading the words answers: a command exactly where they say one. There may be no memory to read them.
+abbrev pub IsReadAs : Option Command → Result Command WordsRefusal → Type 0
+IsReadAs said (Ok command) = said ≡ Some command
+IsReadAs said (Err BadWords) = said ≡ None
+IsReadAs said (Err NoMemory) = Unit {0}
 
 -- the limits of a search, from these numbers
 abbrev pub limits_of : ℕ → ℕ → ℕ → Limits

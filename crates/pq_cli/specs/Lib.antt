@@ -3,6 +3,7 @@ pub mod Statuses
 pub mod Words
 pub mod Sayings
 pub mod CommandWords
+pub mod Parser
 pub mod Texts
 pub mod Answers
 pub mod Using

@@ -89,9 +89,9 @@ abbrev pub Ends : {I O : Type 0} → Duty → Status → Change I → Change O �
 Ends duty status input output =
     IsWhole duty status input output ⊎ (IsStopped duty status input output ⊎ IsCut duty status input output)
 
--- No command was said, and input and output are as they were.
+-- No command was said, or there was no memory to see to it; and input and output are as they were.
 pub record IsUnread {I O : Type 0} (status : Status) (input : Change I) (output : Change O) : Type 0 where
-  pub bad_words : status ≡ statuses.BadWords
+  pub cause : (status ≡ statuses.BadWords) ⊎ (status ≡ statuses.NoMemory)
   pub unread : IsSame input
   pub unwritten : IsSame output
 

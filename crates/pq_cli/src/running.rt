@@ -56,6 +56,7 @@ pub fn run_still<I: Source, O: Sink, E: Sink>(
 }
 
 // Runs the command that the words say, where it needs no threads, and reports nothing.
+#[tactic(auto, using(crate::proofs::Unread::refused_run))]
 fn run_words<I: Source, O: Sink>(
     alloc: Global,
     words: &[String],
@@ -141,6 +142,7 @@ where
 }
 
 // Runs the command that the words say, where a queue of several callers is of this kind, and reports nothing.
+#[tactic(auto, using(crate::proofs::Unread::refused_run))]
 fn run_words_on<Rt: Threads + Wait + Sync, H: BoundedQueue, I: Source, O: Sink>(
     rt: &Rt,
     alloc: Global,

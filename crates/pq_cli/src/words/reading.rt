@@ -1,21 +1,26 @@
 //! All words: the name of a command, and what stands behind it.
 
-ghost use Rattle.std.specs.Prelude.{◌≡◌, ◌<◌, ◌≤◌, [], ◌∷◌, length, IfOk, IfSome, MatchOption};
-ghost use Rattle.pq_cli.specs.Words.{settings_from, is_unlimited, is_unmade, is_silent};
-ghost use Rattle.pq_cli.specs.CommandWords.{HasLimits, IsStill, still_alone, still_command_of, answer_of};
-ghost use Rattle.pq_cli.specs.CommandWords.{command_of, texts, within};
+ghost use Rattle.std.specs.Prelude.{◌≡◌, ◌≤◌, IfOk, IfSome};
+ghost use Rattle.clap.specs.Words.{subcommand_rows_of};
+ghost use Rattle.pq_cli.specs.Words.{is_unlimited, is_unmade, is_silent};
+ghost use Rattle.pq_cli.specs.Parser.{answer_in, command_found, has_end, refusal_of};
+ghost use Rattle.pq_cli.specs.CommandWords.{HasLimits, IsReadAs, IsStill, still_alone, still_command_of};
+ghost use Rattle.pq_cli.specs.CommandWords.{command_from, command_of, texts, within};
 ghost use Rattle.pq_cli.specs.CommandWords.{branching_for, most_workers, default_workers, workers_for};
 ghost use Rattle.pq_cli.specs.CommandWords.{solve_from, kind_alone};
 ghost use Rattle.pq_cli.specs.CommandWords.{bound_from, check_from, prove_from, verify_from, trace_from, audit_from};
 ghost use Rattle.pq_cli.specs.CommandWords.{size_for, make_from, IsMadeSize};
 
 use crate::command::{Branching, Command, Kind, Which};
-use crate::words::options::{pair_name, with_lone, with_option};
+use crate::words::command_line::parser;
+use crate::words::found::settings_in;
 use crate::words::settings::Settings;
 use bb_pool::MAX_NODES;
+use clap::error::ErrorKind;
+use clap::{ArgMatches, Error};
 use inst_text::{MAX_ITEMS, MAX_MADE_SHOP};
 use pq_model::{MAX_CAPACITY, MAX_SEATS};
-use std::alloc::Global;
+use std::alloc::{AllocError, Global};
 
 /// How many nodes a search may make where it is not said.
 const DEFAULT_NODES: u64 = 100_000;
@@ -40,24 +45,80 @@ const DEFAULT_JOBS: u64 = 6;
 pub enum WordsRefusal {
     /// No command reads them.
     BadWords,
-    /// There was no memory to read them. Today reading takes none.
+    /// There was no memory to read them.
     NoMemory,
+}
+
+impl From<AllocError> for WordsRefusal {
+    ghost use Rattle.pq_cli.specs.declared.words.reading.WordsRefusal.TheVariants as refusals;
+
+    ghost from_gives = { λ _ e. e ≡ refusals.NoMemory };
+
+    fn from(_error: AllocError) -> WordsRefusal {
+        WordsRefusal::NoMemory
+    }
 }
 
 /// The command that the words say, or `BadWords` where no command reads them.
 ///
 /// The first word is the command. Behind it the problem and the options stand in any order, each at most once; an
-/// option is two words `--name value` or one word `--name=value`. It takes no memory. Linear in the words.
-pub fn read_words(_alloc: Global, words: &[String]) -> Result<Command, WordsRefusal>
-    ensures exact { result ≡ answer_of (command_of (texts words.now)) }
+/// option is two words `--name value` or one word `--name=value`. Linear in the words.
+#[tactic(auto, using(crate::proofs::ClapReads::clap_reads, crate::proofs::ClapReads::end_is_unread))]
+pub fn read_words(alloc: Global, words: &[String]) -> Result<Command, WordsRefusal>
+    ensures exact { IsReadAs (command_of (texts words.now)) result }
     ensures limits { IfOk result HasLimits }
 {
-    command_of(words).ok_or(WordsRefusal::BadWords)
+    // Behind this word clap takes every other as it stands.
+    if has_end(words) {
+        return Err(WordsRefusal::BadWords);
+    }
+    answer_in(parser(alloc)?.try_get_matches_from(words))
+}
+
+// What is answered to what clap answers.
+fn answer_in(parsed: Result<ArgMatches, Error>) -> Result<Command, WordsRefusal>
+    ensures exact { result ≡ answer_in parsed.entry }
+    ensures limits { IfOk result HasLimits }
+{
+    match parsed {
+        Ok(matches) => command_in(&matches).ok_or(WordsRefusal::BadWords),
+        Err(error) => Err(refusal_of(error.kind())),
+    }
+}
+
+// One of the words is the end of the options.
+fn has_end(words: &[String]) -> bool
+    ensures { result ≡ has_end (texts words.now) }
+{
+    let Some((word, behind)) = words.split_first() else {
+        return false;
+    };
+    word.as_str().as_bytes() == b"--".as_slice() || has_end(behind)
+}
+
+// Whatever clap finds amiss is bad words, but that it has no memory.
+fn refusal_of(kind: ErrorKind) -> WordsRefusal
+    ensures { result ≡ refusal_of kind }
+{
+    match kind {
+        ErrorKind::OutOfMemory => WordsRefusal::NoMemory,
+        _ => WordsRefusal::BadWords,
+    }
+}
+
+// The command that clap found, where its settings are those of one.
+#[tactic(auto, using(crate::proofs::ClapReads::found_is, crate::proofs::ClapReads::none_found))]
+fn command_in(matches: &ArgMatches) -> Option<Command>
+    ensures exact { result ≡ command_found (subcommand_rows_of matches.now) }
+    ensures limits { IfSome result HasLimits }
+{
+    let (name, behind) = matches.subcommand()?;
+    command_from(name.as_bytes(), settings_in(behind)?)
 }
 
 /// The same of the commands that need no threads: words that say another are bad words.
 pub fn read_still_words(alloc: Global, words: &[String]) -> Result<Command, WordsRefusal>
-    ensures exact { result ≡ answer_of (still_command_of (texts words.now)) }
+    ensures exact { IsReadAs (still_command_of (texts words.now)) result }
     ensures limits { IfOk result HasLimits }
     ensures still { IfOk result IsStill }
 {
@@ -87,58 +148,30 @@ fn still_alone(command: Command) -> Option<Command>
     }
 }
 
-// The command that the words say.
-#[tactic(auto, unfolding(crate::specs::CommandWords::command_of))]
-fn command_of(words: &[String]) -> Option<Command>
-    ensures exact { result ≡ command_of (texts words.now) }
+// The command of this name with these settings.
+fn command_from(name: &[u8], said: Settings) -> Option<Command>
+    ensures exact { result ≡ command_from name.now said }
     ensures limits { IfSome result HasLimits }
 {
-    let (name, behind) = split_word(words)?;
     if name == b"solve".as_slice() {
-        solve_from(settings_from(Settings::NONE, behind)?)
+        solve_from(said)
     } else if name == b"bound".as_slice() {
-        bound_from(settings_from(Settings::NONE, behind)?)
+        bound_from(said)
     } else if name == b"check".as_slice() {
-        check_from(settings_from(Settings::NONE, behind)?)
+        check_from(said)
     } else if name == b"prove".as_slice() {
-        prove_from(settings_from(Settings::NONE, behind)?)
+        prove_from(said)
     } else if name == b"verify".as_slice() {
-        verify_from(settings_from(Settings::NONE, behind)?)
+        verify_from(said)
     } else if name == b"trace".as_slice() {
-        trace_from(settings_from(Settings::NONE, behind)?)
+        trace_from(said)
     } else if name == b"audit".as_slice() {
-        audit_from(settings_from(Settings::NONE, behind)?)
+        audit_from(said)
     } else if name == b"make".as_slice() {
-        make_from(settings_from(Settings::NONE, behind)?)
+        make_from(said)
     } else {
         None
     }
-}
-
-// What the words say beside what was said before them.
-#[tactic(auto, using(crate::proofs::WordSteps::lone_step, crate::proofs::WordSteps::pair_words), unfolding(crate::specs::Words::settings_from))]
-fn settings_from(said: Settings, words: &[String]) -> Option<Settings>
-    ensures { result ≡ settings_from said (texts words.now) }
-{
-    let Some((word, behind)) = split_word(words) else {
-        return Some(said);
-    };
-    match pair_name(word) {
-        None => settings_from(with_lone(said, word)?, behind),
-        Some(name) => {
-            let (value, behind) = split_word(behind)?;
-            settings_from(with_option(said, name, value)?, behind)
-        }
-    }
-}
-
-// The first word, and those behind it.
-fn split_word(words: &[String]) -> Option<(&[u8], &[String])>
-    ensures split { MatchOption result (texts words.now ≡ []) (λ p. texts words.now ≡ p.0.now ∷ texts p.1.now) }
-    ensures less { IfSome result (λ p. length p.1.now < length words.now) }
-{
-    let (word, behind) = words.split_first()?;
-    Some((word.as_str().as_bytes(), behind))
 }
 
 // The number, where it lies from `low` to `high`.
