@@ -2,7 +2,7 @@
 use Rattle.std.proofs.Common.{◌≡◌, refl, ℕ, Some}
 use Rattle.pq_model.specs.Limits.{max_seats, max_capacity}
 use Rattle.pq_cli.specs.declared.command.Command.{Command}
-use Rattle.pq_cli.specs.declared.command.Command.TheVariants.{Solve, Bound, Check, Prove, Verify, Trace, Audit}
+use Rattle.pq_cli.specs.declared.command.Command.TheVariants.{Solve, Bound, Check, Prove, Verify, Trace, Audit, Make}
 use Rattle.pq_cli.specs.declared.command.Which.TheVariants.{Plain, Hunt}
 use Rattle.pq_cli.specs.CommandWords.{queue_of, HasLimits, IsShared}
 
@@ -20,3 +20,4 @@ hunt_is_shared callers most (Bound kind branching) heap limits is = absurd (cc)
 hunt_is_shared callers most (Check kind) heap limits is = absurd (cc)
 hunt_is_shared callers most Verify heap limits is = absurd (cc)
 hunt_is_shared callers most Audit heap limits is = absurd (cc)
+hunt_is_shared callers most (Make kind seed size) heap limits is = absurd (cc)
