@@ -1,7 +1,8 @@
 -- Where the numbers come from that a search by several workers drew: all but the root's were drawn for children of a
 -- node that was taken.
 use Rattle.std.specs.Prelude.{ℕ, ◌≡◌, ◌≢◌, ◌+◌, ◌<◌, ◌≤◌, ◌==◌, nat_eq, nat_le, nat_lt, ◌&&◌, Bool, if◌then◌else◌}
-use Rattle.std.specs.Prelude.{List, [], ◌∷◌, ◌++◌, length, All, Contains, ◌⊎◌, count_by, slice_index_or, Option, Some, None}
+use Rattle.std.specs.Prelude.{List, [], ◌∷◌, ◌++◌, length, All, Contains, count_by, slice_index_or}
+use Rattle.std.specs.Prelude.{◌⊎◌, Option, Some, None}
 use Rattle.std.specs.List.{IsDistinct}
 use Rattle.bb_problem.specs.Tree.{below}
 use Rattle.bb_problem.specs.Meaning.{Meaning}
