@@ -172,9 +172,7 @@ where
         | Command::Check { .. }
         | Command::Verify
         | Command::Audit
-        | Command::Make { .. } => {
-            unreachable!()
-        }
+        | Command::Make { .. } => { unreachable!() }
     }
 }
 
