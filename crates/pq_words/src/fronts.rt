@@ -66,7 +66,6 @@ impl Front {
 
     /// The length of the history. Takes constant time and no memory.
     pub fn length(self) -> u32
-        requires fits { FitsFront self }
         requires enough { here self ≤ self.total }
         ensures { result ≡ length_of self }
     {
