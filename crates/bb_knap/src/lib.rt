@@ -11,8 +11,6 @@ mod order;
 mod plan;
 mod problem;
 mod sums;
-#[cfg(test)]
-mod tests;
 mod verdict;
 mod walk;
 

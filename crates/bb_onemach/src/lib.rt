@@ -7,8 +7,6 @@ mod heads;
 mod laws;
 mod problem;
 mod task;
-#[cfg(test)]
-mod tests;
 mod visit;
 
 pub use active_shop::ActiveShop;

@@ -18,4 +18,3 @@ pub mod Together
 pub mod Turns
 pub mod Runs
 pub mod SearchOutcomes
-pub mod Picks

@@ -12,8 +12,6 @@ mod outcome;
 mod plain;
 mod state;
 mod store;
-#[cfg(test)]
-mod tests;
 mod workers;
 
 pub use limits::MAX_NODES;

@@ -5,8 +5,6 @@ mod laws;
 mod made;
 mod proof;
 mod proving;
-#[cfg(test)]
-mod tests;
 mod text;
 mod verdict;
 mod verifying;

@@ -16,8 +16,6 @@ mod planning;
 mod prepared_operation;
 mod problem;
 mod shop;
-#[cfg(test)]
-mod tests;
 mod verdict;
 
 pub use booking::Booking;

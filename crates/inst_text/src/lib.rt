@@ -8,8 +8,6 @@ mod numbers;
 mod plan;
 mod script;
 mod shop;
-#[cfg(test)]
-mod tests;
 mod whole;
 
 pub use knapsack::{

@@ -8,8 +8,6 @@ mod holds;
 mod laws;
 mod plain;
 mod queue;
-#[cfg(test)]
-mod tests;
 
 pub use answers::{Below, CloseRefusal, CloseWhy, Closed, Inserted, Removed};
 pub use gates::{Gate, Open, Point};

@@ -15,8 +15,6 @@ mod refusal;
 mod reporting;
 mod running;
 mod status;
-#[cfg(test)]
-mod tests;
 mod words;
 
 pub use command::{Branching, Command, Kind, Which};

@@ -14,8 +14,6 @@ mod queue;
 mod remove;
 mod rule;
 mod sift;
-#[cfg(test)]
-mod tests;
 mod views;
 
 pub use laws::{

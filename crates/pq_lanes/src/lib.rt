@@ -7,8 +7,6 @@ mod ending;
 mod lane;
 mod laws;
 mod running;
-#[cfg(test)]
-mod tests;
 mod tracing;
 
 pub use answers::{Answer, answer_to_insert, answer_to_remove, answer_to_remove_below};

@@ -12,8 +12,6 @@ mod plays;
 mod rule;
 mod steps;
 mod sweeping;
-#[cfg(test)]
-mod tests;
 mod views;
 
 pub use bench::{Bench, BenchPass, bench_words};

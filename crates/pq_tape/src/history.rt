@@ -39,6 +39,3 @@ impl Model for History {
 
     ghost view = { λ h. record { head = h.head; marks = h.marks.items; left = h.left } };
 }
-
-#[cfg(test)]
-mod tests;

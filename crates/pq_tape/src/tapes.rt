@@ -3,8 +3,6 @@ ghost use Rattle.std.specs.Prelude.{◌≡◌, ◌==◌, ◌<◌, ◌++◌, ◌�
 ghost use Rattle.pq_model.specs.Passes.{call, lane};
 
 mod merging;
-#[cfg(test)]
-mod tests;
 
 pub use merging::merge;
 use pq_io::NoMemory;

@@ -1,0 +1,2 @@
+-- The small problem of some tests.
+pub mod Picks

@@ -1,0 +1,8 @@
+//! One file for each thing that is tested.
+mod active_shops;
+mod knapsacks;
+mod picks;
+mod proofs;
+mod shops;
+mod texts;
+mod workers;

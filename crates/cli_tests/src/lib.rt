@@ -1,0 +1,5 @@
+//! Tests of the top call, with streams in memory.
+#![tactic(auto)]
+
+#[cfg(test)]
+mod tests;

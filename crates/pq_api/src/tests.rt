@@ -1,3 +1,0 @@
-//! Tests of the gates and the plain queue.
-mod gates;
-mod plain;

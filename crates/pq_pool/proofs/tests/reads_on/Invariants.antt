@@ -1,5 +1,0 @@
-use Rattle.pq_pool.specs.Bench.{IsLoose}
-use Rattle.pq_pool.proofs.tests.reads_on.Given as goal
-
-abbrev pub invariant-loop : goal.invariant-loop
-invariant-loop l = IsLoose l.shared l.pass

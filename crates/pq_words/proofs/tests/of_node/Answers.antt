@@ -1,6 +1,0 @@
--- The number is the word's own.
-use Rattle.std.proofs.Common.{sym}
-use Rattle.pq_words.proofs.tests.of_node.Goals as goal
-
-pub unpack-requires : goal.unpack-requires
-unpack-requires c = record { packed = (c.args.word, c.requires, sym c.pack-number.ensures.number) }
