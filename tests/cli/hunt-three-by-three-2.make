@@ -1,0 +1,1 @@
+cat "${0%/*}/../../examples/three-by-three.txt"

@@ -1,0 +1,1 @@
+cat "${0%/*}/trace-in-order.in"
