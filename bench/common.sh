@@ -3,17 +3,21 @@ top=$(cd "$(dirname "${BASH_SOURCE[0]}")/.." && pwd)
 build=$top/bench/build
 mkdir -p "$build"
 
-# Builds baselines and makers of inputs, where they are missing or older than their sources.
+# Builds baselines and makers of inputs, where they are missing or older than their sources. What several of them share
+# stands in `baselines/parts`.
 baseline() {
-    local name source
+    local name folder=$top/bench/baselines
     for name; do
-        source=$top/bench/baselines/$name.rs
-        [ "$build/$name" -nt "$source" ] || rustc -O --edition 2024 -o "$build/$name" "$source" || exit 70
+        [ -x "$build/$name" ] && [ -z "$(find "$folder/$name.rs" "$folder/parts" -newer "$build/$name")" ] ||
+            rustc -O --edition 2024 -o "$build/$name" "$folder/$name.rs" || exit 70
     done
 }
 
 # The program itself: the one that the variable PQ names, or that of these sources.
 pq=${PQ-$("$top/dist/program")} || exit 70
+
+# Makes a shop of so many jobs and machines from the seed: make_shop SIZE SEED
+make_shop() { "$pq" make shop --size "$1" --seed "$2" >"$build/shop-$1-$1" || exit 1; }
 
 # The status that each timed command has to end with.
 wanted=0
