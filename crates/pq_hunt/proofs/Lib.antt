@@ -16,6 +16,8 @@ pub mod Guarding
 pub mod Stores
 pub mod Looks
 pub mod Draws
+pub mod InsertDraws
+pub mod RemovalDraws
 pub mod Leaves
 pub mod Moves
 pub mod Sitting

@@ -21,7 +21,8 @@ use Rattle.pq_hunt.specs.Layout.{heap_lock}
 use Rattle.pq_hunt.specs.Views.{with_guards}
 use Rattle.pq_hunt.specs.Batches.{entry_at, flight_at, removal, removal_below, batch_of, settled, after_removal, after_removal_below, after_draw}
 use Rattle.pq_hunt.specs.Rules.{hunt_rule}
-use Rattle.pq_hunt.proofs.Draws.{places_empty, places_got, places_last, places_above, has_entry}
+use Rattle.pq_hunt.proofs.Draws.{has_entry}
+use Rattle.pq_hunt.proofs.RemovalDraws.{places_empty, places_got, places_last, places_above}
 
 -- how many marks a batch has
 pub marks_long : (n : ℕ) (act : Act) (b : Batch) → length (marks_of n act b) ≡ length b.before + 1 + length b.after
