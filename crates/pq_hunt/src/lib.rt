@@ -17,8 +17,8 @@ mod sift;
 mod views;
 
 pub use laws::{
-    heaps_open_and_end, inserts_keep_the_heap, owners_are_told, removals_keep_the_heap,
-    words_mean_one_node,
+    heaps_open_and_end, inserts_keep_the_heap, nodes_count_as_seen, owners_are_told,
+    removals_keep_the_heap, words_mean_one_node,
 };
 pub use nodes::Node;
 pub use queue::HuntHeap;
