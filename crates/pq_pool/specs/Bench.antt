@@ -1,5 +1,5 @@
 -- The rule of a table with the words of the base and of the pool alone.
-use Rattle.std.specs.Prelude.{◌≡◌, ℕ, ◌==◌, false, List, [], Contains, slice_index}
+use Rattle.std.specs.Prelude.{◌≡◌, ℕ, ◌+◌, ◌*◌, ◌==◌, false, List, [], Contains, slice_index}
 use mathlib.Core.Option.{some}
 use lib.ListN.{get_elem?}
 use Rattle.atomic_table.specs.Seated.{TableId}
@@ -16,7 +16,7 @@ use Rattle.pq_seats.specs.declared.shared.SeatPass.{SeatPass}
 use Rattle.pq_seats.specs.Rules.{Rule}
 use Rattle.pq_seats.specs.Seats.{Sits}
 use Rattle.pq_pool.specs.declared.views.PoolView.{PoolView}
-use Rattle.pq_pool.specs.Layout.{builder_word, next_word, first_chunk}
+use Rattle.pq_pool.specs.Layout.{builder_word, next_word, first_chunk, chunk_words}
 use Rattle.pq_pool.specs.Facts.{PoolFacts}
 use Rattle.pq_pool.specs.Views.{idle_view}
 use Rattle.pq_pool.specs.Parts.{PoolPart}
@@ -48,6 +48,11 @@ bench_rule = record {
   knows = λ v letter. Unit {0};
   length_of = λ word. word;
 }
+
+-- what a bench with so many chunks is opened for
+abbrev pub bench_limits : ℕ → ℕ → ℕ → Limits
+bench_limits capacity seats chunks =
+    record { capacity = capacity; seats = seats; words = first_chunk + chunk_words * chunks }
 
 -- the seat of a pass that has no pin, and not the builder's word
 pub record SeatIsLoose (z : TableId) (k : Limits) (number lanes : ℕ) (seat : Seat (Unit {0}) (View PoolView))

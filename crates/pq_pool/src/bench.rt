@@ -3,15 +3,15 @@ ghost use Rattle.std.specs.Prelude.{◌≡◌, ℕ, ◌+◌, ◌*◌, ◌≤◌,
 ghost use Rattle.pq_model.specs.Limits.{max_seats};
 ghost use Rattle.pq_model.specs.History.{IsSeat};
 ghost use Rattle.pq_api.specs.Answers.{EachAt};
-ghost use Rattle.pq_seats.specs.Seats.{Begins, limits_for};
-ghost use Rattle.pq_seats.specs.Passes.{view_of, Belongs, IsSamePass};
+ghost use Rattle.pq_seats.specs.Seats.{Begins, limits_for, newcomer};
+ghost use Rattle.pq_seats.specs.Passes.{limits_of, view_of, Belongs, IsSamePass};
 ghost use Rattle.pq_seats.specs.Steps.{Took, Missed, freed_view};
 ghost use Rattle.pq_pool.specs.Limits.{max_chunks};
 ghost use Rattle.pq_pool.specs.Layout.{builder_word, first_chunk, chunk_words};
 ghost use Rattle.pq_pool.specs.States.{IsBuilt, IsLive};
 ghost use Rattle.pq_pool.specs.Views.{unpinned, moved};
 ghost use Rattle.pq_pool.specs.Passes.{pool_of, HoldsBuilder, StaysBuilder, StaysSeated, AgreesAt};
-ghost use Rattle.pq_pool.specs.Bench.{bench_rule, bench_pool, IsLoose};
+ghost use Rattle.pq_pool.specs.Bench.{bench_rule, bench_pool, bench_limits, IsLoose};
 ghost use Rattle.pq_pool.specs.BenchLawsHold.{bench_lawful, bench_pool_laws};
 
 use crate::layout::{BUILDER_WORD, CHUNK_WORDS, FIRST_CHUNK};
@@ -63,7 +63,8 @@ pub fn bench_words(alloc: Global, chunks: u32, seats: u32) -> Result<Vec<u64>, N
 }
 
 impl Bench {
-    /// Opens a fresh bench, and gives all its passes at once. None of them has a pin or the builder's word.
+    /// Opens a fresh bench with the words of `bench_words`, and gives all its passes at once, numbered from 1 on. Each is
+    /// new: its seat has no pin and not the builder's word, and has seen and read nothing.
     pub fn open(
         alloc: Global,
         chunks: u32,
@@ -72,11 +73,13 @@ impl Bench {
     ) -> Result<(Shared<Bench>, Vec<BenchPass>), NoMemory>
         requires chunks { (1 ≤ chunks) × (chunks ≤ max_chunks) }
         requires seats { IsSeat max_seats seats }
+        ensures limits { IfOk result (λ r. limits_of r.0 ≡ bench_limits capacity seats chunks) }
         ensures long { IfOk result (λ r. r.0.words ≡ first_chunk + chunk_words * chunks) }
         ensures seats { IfOk result (λ r. r.0.seats ≡ seats) }
         ensures count { IfOk result (λ r. length r.1.items ≡ seats) }
-        ensures passes { IfOk result (λ r. EachAt (λ i p.
-            IsLoose r.0 p × (p.number ≡ i + 1)) r.1.items) }
+        ensures passes { IfOk result (λ r. EachAt (λ i p. IsLoose r.0 p × (p.number ≡ i + 1)) r.1.items) }
+        ensures new { IfOk result (λ r. EachAt (λ i p.
+            view_of p ≡ newcomer bench_rule (bench_limits capacity seats chunks) (i + 1)) r.1.items) }
     {
         let words = bench_words(alloc, chunks, seats)?;
         let (shared, passes) = Shared::open(alloc, words, capacity, seats)?;

@@ -1,6 +1,9 @@
-use Rattle.std.proofs.Common.{◌+◌, ap, ◌∙◌}
+use Rattle.std.proofs.Common.{ℕ, ◌+◌, ap, ◌∙◌}
 use Rattle.std.specs.Prelude.{slice_index_or}
 use Rattle.pq_model.specs.declared.passes.Known.{Known}
+use Rattle.pq_seats.specs.declared.views.Limits.{Limits}
+use Rattle.pq_seats.specs.Seats.{newcomer}
+use Rattle.pq_pool.specs.Bench.{bench_rule}
 use Rattle.pq_pool.proofs.BenchAllows.{newcomer_is_loose}
 use Rattle.pq_pool.proofs.bench.Bench.open.Goals as goal
 
@@ -13,3 +16,12 @@ returns-clause-passes c = let q = c.in_ok-shared.shared in λ i d lt.
       newcomer_is_loose q.table.shared.table_id q.table.shared.key p.number p.lanes (i + 1) p.seat e.0 e.2,
       e.0.named ∙ ap (λ (x : Known). x.number) e.1,
     )
+
+-- the table has the words of `bench_words`
+pub returns-clause-limits : goal.returns-clause-limits
+returns-clause-limits c = c.in_ok-shared.ensures.limits
+    ∙ ap (λ (n : ℕ). let k : Limits = record { capacity = c.args.capacity; seats = c.args.seats; words = n } in k) c.in_ok-words.ensures.long
+
+pub returns-clause-new : goal.returns-clause-new
+returns-clause-new c = λ i d lt. (c.in_ok-shared.ensures.passes i d lt).2
+    ∙ ap (λ (k : Limits). newcomer bench_rule k (i + 1)) (returns-clause-limits c)
