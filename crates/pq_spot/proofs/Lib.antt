@@ -1,2 +1,3 @@
 -- How the calls of the spot are proved.
 pub mod Allows
+pub mod Ending

@@ -2,6 +2,7 @@
 use Rattle.std.specs.Prelude.{◌≡◌, ℕ, ◌≤◌, Bool, true, false, Option, Some, None, [], ◌∷◌}
 use Rattle.pq_model.specs.declared.marks.Reply.{Reply}
 use Rattle.pq_model.specs.declared.marks.Reply.TheVariants as replies
+use Rattle.pq_api.specs.Closing.{Remains}
 use Rattle.pq_seats.specs.declared.views.Post.{Post}
 use Rattle.pq_seats.specs.declared.views.View.{View}
 use Rattle.pq_seats.specs.declared.shared.Shared.{Shared}
@@ -55,6 +56,11 @@ settled_by n None = offering n
 abbrev pub taken_reply : Bool → Reply
 taken_reply true = replies.Got token
 taken_reply false = replies.Empty
+
+-- what is left of a closed table: the entry or nothing, after so many calls
+abbrev pub remains : Bool → ℕ → Remains
+remains true length = record { left = token ∷ []; length = length }
+remains false length = record { left = []; length = length }
 
 module _ {R : Type 0} where
   abbrev pub Rests : Shared R SpotPart → SeatPass R SpotPart → Type 0

@@ -1,5 +1,6 @@
 //! The calls of the spot.
-ghost use Rattle.std.specs.Prelude.{◌≡◌, ◌≢◌, ℕ, suc, ◌+◌, ◌-◌, ◌<◌, ◌≤◌, Contains, [], ◌∷◌, length, IfOk, IfSome, None};
+ghost use Rattle.std.specs.Prelude.{◌≡◌, ◌≢◌, ℕ, suc, ◌+◌, ◌-◌, ◌<◌, ◌≤◌, Contains, [], ◌∷◌, length};
+ghost use Rattle.std.specs.Prelude.{IfOk, IfSome, MatchBool, None};
 ghost use Rattle.std.specs.Mem.Slots.{slots_items};
 ghost use Rattle.pq_model.specs.Limits.{max_seats};
 ghost use Rattle.pq_model.specs.History.{IsSeat};
@@ -8,13 +9,15 @@ ghost use Rattle.pq_model.specs.declared.marks.Act.TheVariants as acts;
 ghost use Rattle.pq_model.specs.declared.marks.Reply.TheVariants as replies;
 ghost use Rattle.pq_api.specs.Limits.{call_limit};
 ghost use Rattle.pq_api.specs.Answers.{EachAt, MakesCall};
+ghost use Rattle.pq_api.specs.Closing.{IsClosed};
 ghost use Rattle.pq_seats.specs.Views.{with_post};
 ghost use Rattle.pq_seats.specs.Laws.{history_limit};
+ghost use Rattle.pq_seats.specs.Steps.{Took, Missed};
 ghost use Rattle.pq_seats.specs.Passes.{limits_of, view_of, known, Belongs, IsSamePass};
-ghost use Rattle.pq_spot.specs.Spot.{token, lock_word, part, stored_post, offered_post};
+ghost use Rattle.pq_spot.specs.Spot.{token, lock_word, part, spot_rule, stored_post, offered_post};
 ghost use Rattle.pq_spot.specs.Passes.{Goes, IsStill, IsTried, resting, offering, locking, freed_post};
 ghost use Rattle.pq_spot.specs.Passes.{offered_by, settled_by, taken_reply};
-ghost use Rattle.pq_spot.specs.Passes.{Rests, Offers};
+ghost use Rattle.pq_spot.specs.Passes.{Rests, Offers, remains};
 
 use crate::plays::{Look, Offer, Put};
 use crate::{SpotPass, SpotTable};
@@ -50,6 +53,7 @@ pub fn open(
 ) -> Result<(SpotTable, Vec<SpotPass>), NoMemory>
     requires capacity { 1 ≤ capacity }
     requires seats { IsSeat max_seats seats }
+    ensures capacity { IfOk result (λ r. (limits_of r.0).capacity ≡ capacity) }
     ensures seats { IfOk result (λ r. r.0.seats ≡ seats) }
     ensures count { IfOk result (λ r. length r.1.items ≡ seats) }
     ensures passes { IfOk result (λ r. EachAt (λ i p. Rests r.0 p × (known p ≡ fresh (i + 1))) r.1.items) }
@@ -133,12 +137,16 @@ fn free(table: &SpotTable, pass: &mut SpotPass)
     table.unlock(pass, LOCK);
 }
 
-/// Tries to take the lock. The answer is true exactly where it was free.
+/// Tries to take the lock, by one exchange. The answer is true exactly where the word read was 0. The seat has the lock
+/// then, and else it holds nothing, as before. In both cases its view has read further.
 pub fn try_hold(table: &SpotTable, pass: &mut SpotPass) -> bool
     requires rests { Rests table.now pass.old }
     ensures own { Belongs table.now pass.new }
     ensures same { IsSamePass pass.old pass.new }
     ensures tried { IsTried pass.new.number result (view_of pass.old) (view_of pass.new) }
+    ensures answer { MatchBool result
+        (Took spot_rule (view_of pass.old) (view_of pass.new) lock_word)
+        (Missed spot_rule (view_of pass.old) (view_of pass.new)) }
 {
     table.try_lock(pass, LOCK)
 }
@@ -282,13 +290,16 @@ fn take_offered(table: &SpotTable, pass: &mut SpotPass, owner: u32) -> u32
     first + 1
 }
 
-/// Ends the table, once all passes are joined into this one: whether the entry is left, and how long the history is.
+/// Ends the table, once all passes are joined into this one. The calls of all passes, put by place, are then the whole
+/// history, and it is legal. The answer tells whether it leaves the entry, and how long it is.
 pub fn shut(table: SpotTable, pass: SpotPass) -> (bool, u32)
     requires rests { Rests table pass }
     requires all { table.seats ≤ pass.lanes }
+    ensures closed { IsClosed table.seats (limits_of table).capacity (known pass) (remains result.0 result.1) }
 {
     let closed = table.close(pass);
-    let shut = (closed.word(SPOT) == THERE, closed.word(0) as u32);
+    let there = closed.word(SPOT) == THERE;
+    let length = closed.word(0) as u32;
     closed.free();
-    shut
+    (there, length)
 }
