@@ -28,7 +28,8 @@ use Rattle.pq_cli.proofs.ClapEnd.{no_ends_are, end_leaves_none}
 
 -- a name of no command
 no_command : (name : Text) (said : Settings) → AreOther name command_names → command_from name said ≡ None
-no_command name said o = rw (o.0, o.1.0, o.1.1.0, o.1.1.1.0, o.1.1.1.1.0, o.1.1.1.1.1.0, o.1.1.1.1.1.1.0, o.1.1.1.1.1.1.1.0) refl
+no_command name said o =
+    rw (o.0, o.1.0, o.1.1.0, o.1.1.1.0, o.1.1.1.1.0, o.1.1.1.1.1.0, o.1.1.1.1.1.1.0, o.1.1.1.1.1.1.1.0, o.1.1.1.1.1.1.1.1.0) refl
 
 first_end : (x : Text) (words : List Text) → bytes_eq x (codes "--") ≡ true → command_of (x ∷ words) ≡ None
 unfolding command_of

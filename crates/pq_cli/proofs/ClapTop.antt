@@ -22,7 +22,9 @@ use Rattle.pq_cli.proofs.ClapWalk.{AreNoEnds, or_nil}
 use Rattle.pq_cli.proofs.ClapLevels.{rules, leaf_fault, leaf_rows, taken_words, refused_words}
 
 abbrev pub command_names : List Text
-command_names = codes "solve" ∷ codes "bound" ∷ codes "check" ∷ codes "prove" ∷ codes "verify" ∷ codes "trace" ∷ codes "audit" ∷ codes "make" ∷ []
+command_names =
+    codes "solve" ∷ codes "bound" ∷ codes "check" ∷ codes "prove" ∷ codes "verify" ∷ codes "trace" ∷ codes "audit" ∷ codes "make"
+    ∷ codes "drill" ∷ []
 
 abbrev top : Shape
 top = record {

@@ -2,6 +2,7 @@ pub mod WordSteps
 pub mod Makespans
 pub mod Explained
 pub mod Planned
+pub mod Drilled
 pub mod Shared
 pub mod SayingsRead
 pub mod Traced

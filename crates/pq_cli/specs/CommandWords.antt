@@ -5,7 +5,8 @@ use Rattle.std.specs.Str.{bytes_eq}
 use Rattle.std.specs.declared.alloc.Global.{Global}
 use Rattle.pq_io.specs.Reading.{is_between}
 use Rattle.pq_model.specs.Limits.{max_seats, max_capacity}
-use Rattle.inst_text.specs.Limits.{max_items, max_made_shop}
+use Rattle.inst_text.specs.Limits.{max_items, max_made_shop, max_made_inserts}
+use Rattle.pq_lanes.specs.Drills.{drill_capacity}
 use Rattle.bb_pool.specs.Limits.{max_nodes}
 use Rattle.pq_cli.specs.declared.command.Kind.{Kind}
 use Rattle.pq_cli.specs.declared.command.Branching.{Branching}
@@ -14,13 +15,14 @@ use Rattle.pq_cli.specs.declared.command.Kind.TheVariants.{Knapsack, Shop}
 use Rattle.pq_cli.specs.declared.command.Which.{Which}
 use Rattle.pq_cli.specs.declared.command.Which.TheVariants.{Plain, Hunt}
 use Rattle.pq_cli.specs.declared.command.Command.{Command}
-use Rattle.pq_cli.specs.declared.command.Command.TheVariants.{Solve, Bound, Check, Prove, Verify, Trace, Audit, Make}
+use Rattle.pq_cli.specs.declared.command.Command.TheVariants.{Solve, Bound, Check, Prove, Verify, Trace, Audit, Make, Drill}
 use Rattle.pq_cli.specs.declared.commands.task.Task.{Task}
 use Rattle.pq_cli.specs.declared.commands.task.Task.TheVariants as tasks
 use Rattle.pq_cli.specs.declared.limits.Limits.{Limits}
 use Rattle.pq_cli.specs.declared.words.reading.WordsRefusal.{WordsRefusal}
 use Rattle.pq_cli.specs.declared.words.reading.WordsRefusal.TheVariants.{BadWords, NoMemory}
 use Rattle.pq_cli.specs.declared.words.settings.Settings.{Settings}
+use Rattle.pq_cli.specs.Drilling.{drill_nodes}
 use Rattle.pq_cli.specs.Tracing.{lanes_on}
 use Rattle.pq_cli.specs.Words.{◌>>=◌, option_limit, settings_from, is_unlimited, is_unmade, is_silent}
 
@@ -127,13 +129,36 @@ abbrev pub size_for : Kind → Option ℕ → Option ℕ
 size_for Knapsack said = within 0 max_items (unwrap_or said 100)
 size_for Shop said = within 1 max_made_shop (unwrap_or said 6)
 
+-- the seed of what is made
+abbrev pub seed_for : Option ℕ → Option ℕ
+seed_for said = within 0 option_limit (unwrap_or said 0)
+
 -- a problem, a seed and a size
 unfoldable pub make_from : Settings → Option Command
 make_from said = do
   kind ← said.kind
-  seed ← within 0 option_limit (unwrap_or said.seed 0)
+  seed ← seed_for said.seed
   size ← size_for kind said.size
   if is_none said.branching && is_unlimited said then Some (Make kind seed size) else None
+
+-- the queue, where it has several callers
+abbrev pub of_several : Which → Option Which
+of_several Plain = None
+of_several Hunt = Some Hunt
+
+-- how many entries each lane of a drill inserts
+abbrev pub inserts_for : Option ℕ → Option ℕ
+inserts_for said = within 0 max_made_inserts (unwrap_or said 1000)
+
+-- a queue of several callers, workers, a seed and a size
+unfoldable pub drill_from : Settings → Option Command
+drill_from said = do
+  queue ← of_several (unwrap_or said.queue default_queue)
+  workers ← workers_for queue said.workers
+  seed ← seed_for said.seed
+  size ← inserts_for said.size
+  if is_none said.kind && (is_none said.branching && (is_none said.nodes && is_none said.capacity))
+      then Some (Drill queue workers seed size) else None
 
 abbrev pub nothing : Settings
 nothing = record {
@@ -158,6 +183,7 @@ command_from name said =
     else if bytes_eq name (codes "trace") then trace_from said
     else if bytes_eq name (codes "audit") then audit_from said
     else if bytes_eq name (codes "make") then make_from said
+    else if bytes_eq name (codes "drill") then drill_from said
     else None
 
 -- The command that the words say; None where no command reads them.
@@ -175,6 +201,7 @@ queue_of (Prove queue workers nodes capacity) = Some queue
 queue_of Verify = None
 queue_of Audit = None
 queue_of (Make kind seed size) = None
+queue_of (Drill queue workers seed size) = Some queue
 
 -- a queue has one caller
 abbrev pub IsPlain : Which → Type 0
@@ -190,6 +217,7 @@ abbrev pub still_alone : Command → Option Command
 still_alone (Solve kind branching Hunt workers nodes capacity) = None
 still_alone (Prove Hunt workers nodes capacity) = None
 still_alone (Trace Hunt capacity) = None
+still_alone (Drill queue workers seed size) = None
 still_alone c = Some c
 
 -- the command that the words say, where it needs no threads
@@ -221,6 +249,27 @@ abbrev pub IsMadeSize : Kind → ℕ → Type 0
 IsMadeSize Knapsack size = size ≤ max_items
 IsMadeSize Shop size = (1 ≤ size) × (size ≤ max_made_shop)
 
+-- a queue has several callers
+abbrev pub IsOfSeveral : Which → Type 0
+IsOfSeveral Plain = ⊥
+IsOfSeveral Hunt = Unit {0}
+
+-- The numbers that a drill may have on the queue of this name.
+pub record IsDrill (queue : Which) (workers size : ℕ) : Type 0 where
+  pub several : IsOfSeveral queue
+  pub workers_are : (1 ≤ workers) × (workers ≤ most_workers queue)
+  pub size_is : size ≤ max_made_inserts
+
+-- the limits of the search of a drill
+abbrev pub drill_limits : ℕ → Limits
+drill_limits workers = limits_of workers drill_nodes (drill_nodes + workers)
+
+-- A drill stays within the limits of a queue of at most so many callers and this capacity: its lanes and its search.
+pub record IsDrillWithin (callers capacity workers size : ℕ) : Type 0 where
+  pub size_is : size ≤ max_made_inserts
+  pub lanes : drill_capacity workers size ≤ capacity
+  pub search : AreWithin callers capacity (drill_limits workers)
+
 -- the same of what is to be done with a problem where no threads are needed
 abbrev pub HasTaskLimits : Task → Type 0
 HasTaskLimits (tasks.Solve limits) = AreWithin 1 max_capacity limits
@@ -236,6 +285,7 @@ HasLimits (Prove queue workers nodes capacity) = AreLimits queue (limits_of work
 HasLimits Verify = Unit {0}
 HasLimits Audit = Unit {0}
 HasLimits (Make kind seed size) = IsMadeSize kind size
+HasLimits (Drill queue workers seed size) = IsDrill queue workers size
 
 -- A command uses a queue, within the limits of one of at most so many callers and this capacity.
 abbrev pub IsShared : ℕ → ℕ → Command → Type 0
@@ -245,4 +295,5 @@ IsShared callers most (Prove queue workers nodes capacity) =
     AreWithin callers most (limits_of workers nodes capacity)
 IsShared callers most (Trace queue capacity) =
     (1 ≤ capacity) × (capacity ≤ most) × (lanes_on queue capacity ≡ min callers capacity)
+IsShared callers most (Drill queue workers seed size) = IsDrillWithin callers most workers size
 IsShared callers most _ = ⊥

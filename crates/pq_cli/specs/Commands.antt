@@ -21,6 +21,7 @@ use Rattle.pq_cli.specs.declared.limits.Limits.{Limits}
 use Rattle.pq_cli.specs.declared.status.Status.TheVariants as statuses
 use Rattle.pq_cli.specs.Auditing.{IsAudited}
 use Rattle.pq_cli.specs.CommandWords.{limits_of}
+use Rattle.pq_cli.specs.Drilling.{drill_text}
 use Rattle.pq_cli.specs.Tracing.{IsTraced, lanes_on}
 use Rattle.pq_cli.specs.Proving.{IsProved, IsProofTooLong, IsVerified}
 use Rattle.pq_cli.specs.Using.{Texts, IsSolved, IsRootBound, IsChecked}
@@ -124,3 +125,4 @@ duty_of (commands.Prove queue workers nodes capacity) = Reads (proving (limits_o
 duty_of commands.Verify = Reads verifying
 duty_of commands.Audit = Reads auditing
 duty_of (commands.Make kind seed size) = Writes (made_text kind seed size)
+duty_of (commands.Drill queue workers seed size) = Writes (drill_text workers seed size)

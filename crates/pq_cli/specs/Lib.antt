@@ -5,6 +5,7 @@ pub mod Sayings
 pub mod CommandWords
 pub mod Parser
 pub mod Texts
+pub mod Drilling
 pub mod Answers
 pub mod Using
 pub mod Problems

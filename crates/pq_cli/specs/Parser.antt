@@ -47,8 +47,9 @@ bare_app = on_top (λ s. record s {
 
 abbrev pub parser_app : App
 parser_app =
-    with_command (with_command (with_command (with_command (with_command (with_command (with_command (with_command bare_app
-    (codes "solve")) (codes "bound")) (codes "check")) (codes "prove")) (codes "verify")) (codes "trace")) (codes "audit")) (codes "make")
+    with_command (with_command (with_command (with_command (with_command (with_command (with_command (with_command
+    (with_command bare_app (codes "solve")) (codes "bound")) (codes "check")) (codes "prove")) (codes "verify"))
+    (codes "trace")) (codes "audit")) (codes "make")) (codes "drill")
 
 -- one of the words is the end of the options, behind which clap would take each word as it stands
 abbrev pub has_end : List Text → Bool

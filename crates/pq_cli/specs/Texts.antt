@@ -18,3 +18,8 @@ bound_text bound = lines_text ((codes "bound" ∷ decimal bound ∷ []) ∷ [])
 -- the plan is feasible, and this is its number
 abbrev pub feasible_text : ℕ → List ℕ
 feasible_text stated = lines_text ((codes "feasible" ∷ decimal stated ∷ []) ∷ [])
+
+-- The lanes' history has so many marks and leaves so many entries, and the best choice has this value.
+abbrev pub summary_text : ℕ → ℕ → ℕ → List ℕ
+summary_text marks left value = lines_text ((codes "marks" ∷ decimal marks ∷ [])
+    ∷ (codes "left" ∷ decimal left ∷ []) ∷ (codes "value" ∷ decimal value ∷ []) ∷ [])

@@ -76,4 +76,15 @@ pub enum Command {
         /// How many items a knapsack has, 0 to 1,024; or how many jobs and machines a shop has, 1 to 32.
         size: u32,
     },
+    /// Runs lanes and a search that are made from a number on queues of one kind, and writes what they came to. It
+    /// reads nothing.
+    Drill {
+        /// One of several callers.
+        queue: Which,
+        /// How many lanes there are, and how many work at the search: 1 to 16.
+        workers: u32,
+        seed: u32,
+        /// How many entries each lane inserts, and then removes: 0 to 1,000.
+        size: u32,
+    },
 }

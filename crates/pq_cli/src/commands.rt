@@ -16,6 +16,7 @@ ghost use Rattle.pq_cli.specs.Work.{Meets};
 mod audit;
 mod bound;
 mod check;
+mod drill;
 mod make;
 mod prove;
 mod solve;
@@ -28,6 +29,7 @@ use crate::command::{Branching, Command, Kind, Which};
 use crate::commands::audit::audit;
 use crate::commands::bound::bound;
 use crate::commands::check::check;
+use crate::commands::drill::drill;
 use crate::commands::make::make;
 use crate::commands::prove::{prove, prove_on};
 use crate::commands::solve::{solve, solve_on};
@@ -86,7 +88,7 @@ where
 fn reads_input(command: Command) -> bool
     ensures { result ≡ reads_input (duty_of command) }
 {
-    !matches!(command, Command::Make { .. })
+    !matches!(command, Command::Make { .. } | Command::Drill { .. })
 }
 
 // All that the input holds, where the command reads one. Else the input is left alone.
@@ -168,6 +170,12 @@ where
             prove_on::<Rt, Q>(rt, alloc, bytes, limits, gate)
         }
         Command::Trace { capacity, .. } => trace_on::<Rt, Q>(rt, alloc, bytes, capacity, gate),
+        Command::Drill {
+            workers,
+            seed,
+            size,
+            ..
+        } => drill::<Rt, Q>(rt, alloc, workers, seed, size, gate),
         Command::Bound { .. }
         | Command::Check { .. }
         | Command::Verify
@@ -235,6 +243,14 @@ fn respond_to(alloc: Global, command: Command, bytes: &[u8]) -> Result<Answer, R
         }
         | Command::Trace {
             queue: Which::Hunt,
+            ..
+        }
+        | Command::Drill {
+            queue: Which::Hunt,
+            ..
+        }
+        | Command::Drill {
+            queue: Which::Plain,
             ..
         } => unreachable!(),
         Command::Make { kind, seed, size } => make(alloc, kind, seed, size),
@@ -305,7 +321,8 @@ fn queue_of(command: Command) -> Option<Which>
     match command {
         Command::Solve { queue, .. }
         | Command::Prove { queue, .. }
-        | Command::Trace { queue, .. } => { Some(queue) }
+        | Command::Trace { queue, .. }
+        | Command::Drill { queue, .. } => { Some(queue) }
         Command::Bound { .. }
         | Command::Check { .. }
         | Command::Verify

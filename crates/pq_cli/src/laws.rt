@@ -1,12 +1,15 @@
 //! Laws of the commands together.
 
-ghost use Rattle.std.specs.Prelude.{ℕ, ◌≡◌, List, [], ◌∷◌};
+ghost use Rattle.std.specs.Prelude.{ℕ, ◌≡◌, ◌≤◌, List, [], ◌∷◌};
+ghost use Rattle.inst_text.specs.Knapsack.{Instance};
+ghost use Rattle.bb_knap.specs.Plans.{IsFeasible, value_of};
 ghost use Rattle.pq_model.specs.declared.marks.Act.{Act};
 ghost use Rattle.pq_model.specs.declared.marks.Mark.{Mark};
 ghost use Rattle.pq_cli.specs.declared.command.Branching.{Branching};
 ghost use Rattle.pq_cli.specs.declared.command.Branching.TheVariants as branchings;
 ghost use Rattle.pq_cli.specs.declared.command.Kind.{Kind};
 ghost use Rattle.pq_cli.specs.declared.command.Kind.TheVariants as kinds;
+ghost use Rattle.pq_cli.specs.Drilling.{greatest_value};
 ghost use Rattle.pq_cli.specs.Problems.{used, IsCheckable};
 ghost use Rattle.pq_cli.specs.Proving.{AreVerified};
 ghost use Rattle.pq_lanes.specs.Tracing.{IsTraceOf};
@@ -23,6 +26,14 @@ use inst_text::{
 pub fn traces_are_one()
     ensures { (capacity : ℕ) (acts : List Act) (h k : List Mark) →
         IsTraceOf capacity (acts ∷ []) h → IsTraceOf capacity (acts ∷ []) k → h ≡ k }
+{}
+
+/// Law: the value that a drill tells of its knapsack is that of a feasible choice, and no feasible choice is worth more.
+pub fn greatest_value_is_best()
+    ensures attained { (i : Instance) → (choice : List ℕ) × IsFeasible i choice
+        × (value_of i.items choice ≡ greatest_value i) }
+    ensures greatest { (i : Instance) (choice : List ℕ) → IsFeasible i choice
+        → value_of i.items choice ≤ greatest_value i }
 {}
 
 /// Law: what `solve` answers to an instance, `check` finds feasible behind it: behind any text of the instance that

@@ -18,7 +18,9 @@ mod status;
 mod words;
 
 pub use command::{Branching, Command, Kind, Which};
-pub use laws::{proofs_are_verified, solutions_are_checked, traces_are_one};
+pub use laws::{
+    greatest_value_is_best, proofs_are_verified, solutions_are_checked, traces_are_one,
+};
 pub use reporting::report;
 pub use running::{run, run_on, run_still};
 pub use status::Status;

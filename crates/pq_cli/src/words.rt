@@ -1,6 +1,7 @@
 //! The words of the command line, read as a command.
 
 mod command_line;
+mod commands;
 mod found;
 mod laws;
 mod reading;

@@ -1,7 +1,7 @@
-//! Two lanes on the heap, whose insertions meet in the middle of their work.
+//! Lanes on the heap: two whose insertions meet in the middle of their work, and those of drills.
 
 use super::run_with;
-use pq_api::{Pair, Point};
+use pq_api::{Open, Pair, Point};
 use pq_cli::Status;
 use std::test::Fail;
 
@@ -13,5 +13,24 @@ fn two_insertions_meet(rt: HostRuntime) -> Result<(), Fail> {
     assert!(rt; pair.met());
     assert!(rt; !pair.spent());
     assert!(rt; ran.output.bytes().ends_with(b"left 2\n"));
+    Ok(())
+}
+
+// The values are those of the best of all choices, which were enumerated elsewhere.
+#[test]
+fn drills_tell_what_came_of_them(rt: HostRuntime) -> Result<(), Fail> {
+    for (words, output) in [
+        ("drill --size 0 --workers 1", "marks 0\nleft 0\nvalue 509\n"),
+        ("drill --seed=2 --size=5", "marks 40\nleft 0\nvalue 556\n"),
+        (
+            "drill --workers 16 --size 9",
+            "marks 288\nleft 0\nvalue 509\n",
+        ),
+    ] {
+        let split: Vec<&str> = words.split(' ').collect(rt.alloc())?;
+        let ran = run_with(&rt, rt.alloc(), &split, "no input", &Open)?;
+        assert_eq!(rt; ran.status, Status::Ok, "of {words}");
+        assert_eq!(rt; ran.output.bytes(), output.as_bytes(), "of {words}");
+    }
     Ok(())
 }

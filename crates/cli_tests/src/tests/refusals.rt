@@ -39,6 +39,7 @@ fn refuses_words_that_it_does_not_serve(rt: HostRuntime) -> Result<(), Fail> {
         "solve knapsack",
         "prove knapsack --queue hunt",
         "trace",
+        "drill",
     ] {
         let split: Vec<&str> = words.split(' ').collect(rt.alloc())?;
         let wanted = (Status::BadWords, "", "bad words\n");

@@ -25,7 +25,8 @@ pub fn parser<'a>(alloc: Global) -> Result<Command<'a>, AllocError>
         .subcommand(worded(alloc, "verify")?)?
         .subcommand(worded(alloc, "trace")?)?
         .subcommand(worded(alloc, "audit")?)?
-        .subcommand(worded(alloc, "make")?)
+        .subcommand(worded(alloc, "make")?)?
+        .subcommand(worded(alloc, "drill")?)
 }
 
 // A command with its words.

@@ -14,16 +14,3 @@ pub struct Settings {
     pub seed: Option<u64>,
     pub size: Option<u64>,
 }
-
-impl Settings {
-    pub const NONE: Settings = Settings {
-        kind: None,
-        branching: None,
-        queue: None,
-        workers: None,
-        nodes: None,
-        capacity: None,
-        seed: None,
-        size: None,
-    };
-}

@@ -16,6 +16,7 @@ returns c =
     let w6 : app_of c.in_ok-worded-6.field-0 ≡ worded_app (codes "trace") = c.in_ok-worded-6.ensures.app in
     let w7 : app_of c.in_ok-worded-7.field-0 ≡ worded_app (codes "audit") = c.in_ok-worded-7.ensures.app in
     let w8 : app_of c.in_ok-worded-8.field-0 ≡ worded_app (codes "make") = c.in_ok-worded-8.ensures.app in
+    let w9 : app_of c.in_ok-worded-9.field-0 ≡ worded_app (codes "drill") = c.in_ok-worded-9.ensures.app in
     let s1 = adds_command _ _ _ _ _ c.in_ok-subcommand.ensures s0 w1 c.in_ok-worded.ensures.local in
     let s2 = adds_command _ _ _ _ _ c.in_ok-subcommand-2.ensures s1 w2 c.in_ok-worded-2.ensures.local in
     let s3 = adds_command _ _ _ _ _ c.in_ok-subcommand-3.ensures s2 w3 c.in_ok-worded-3.ensures.local in
@@ -23,4 +24,5 @@ returns c =
     let s5 = adds_command _ _ _ _ _ c.in_ok-subcommand-5.ensures s4 w5 c.in_ok-worded-5.ensures.local in
     let s6 = adds_command _ _ _ _ _ c.in_ok-subcommand-6.ensures s5 w6 c.in_ok-worded-6.ensures.local in
     let s7 = adds_command _ _ _ _ _ c.in_ok-subcommand-7.ensures s6 w7 c.in_ok-worded-7.ensures.local in
-    IfOk-weaker c.subcommand-8.result _ _ (λ new h. adds_command _ _ new _ _ h s7 w8 c.in_ok-worded-8.ensures.local) c.subcommand-8.ensures
+    let s8 = adds_command _ _ _ _ _ c.in_ok-subcommand-8.ensures s7 w8 c.in_ok-worded-8.ensures.local in
+    IfOk-weaker c.subcommand-9.result _ _ (λ new h. adds_command _ _ new _ _ h s8 w9 c.in_ok-worded-9.ensures.local) c.subcommand-9.ensures
