@@ -1,10 +1,10 @@
 -- Words among which the end of the options stands are no command's.
-use Rattle.std.proofs.Common.{◌≡◌, ◌∙◌, ◌⊎◌, inl, inr, refl, sym, ap, subst, Bool, true, false, ◌||◌, List, [], ◌∷◌, Option, None, Some}
+use Rattle.std.proofs.Common.{◌≡◌, ◌∙◌, refl, ap, Bool, true, false, ◌||◌, List, [], ◌∷◌, None, Some}
 use Rattle.std.specs.List.{list_any}
 use Rattle.std.specs.Str.{bytes_eq}
 use Rattle.clap.specs.Walk.{Text}
 use Rattle.pq_cli.specs.declared.words.settings.Settings.{Settings}
-use Rattle.pq_cli.specs.Words.{◌>>=◌, with_option, with_lone, with_kind, pair_name, settings_from}
+use Rattle.pq_cli.specs.Words.{◌>>=◌, with_option, with_lone, pair_name, settings_from}
 use Rattle.pq_cli.proofs.SayingsRead.{WordIs, IsName, IsOpen, IsWhole, word_is, named_word, open_word, whole_word}
 use Rattle.pq_cli.proofs.ClapRows.{bind_none, same_bytes, none_of_or}
 use Rattle.pq_cli.proofs.ClapWords.{dash_option}

@@ -1,5 +1,5 @@
 -- What is read of the rows that clap found, by their ids, is what they say.
-use Rattle.std.proofs.Common.{◌≡◌, ◌∙◌, ◌⊎◌, inl, inr, refl, sym, ap, subst, ℕ, Bool, true, false, ◌||◌, List, [], ◌∷◌, length, map, if◌then◌else◌, Option, None, Some}
+use Rattle.std.proofs.Common.{◌≡◌, ◌∙◌, ◌⊎◌, inl, inr, refl, sym, ap, subst, ℕ, Bool, true, false, List, [], ◌∷◌, map, if◌then◌else◌, Option, None, Some}
 use Rattle.std.specs.Prelude.{codes, slice_get}
 use Rattle.std.specs.Str.{bytes_eq}
 use Rattle.clap.specs.Walk.{Row, Text, has_row, first_of}
@@ -8,7 +8,7 @@ use Rattle.pq_cli.specs.declared.command.Kind.{Kind}
 use Rattle.pq_cli.specs.declared.command.Which.{Which}
 use Rattle.pq_cli.specs.declared.words.settings.Settings.{Settings}
 use Rattle.pq_cli.specs.Words.{◌>>=◌, kind_of, which_of, branching_of, number_in}
-use Rattle.pq_cli.specs.Sayings.{Saying, Named, Valued, named, values_of, Becomes, IsOptionName, AreKnown, AreSettings}
+use Rattle.pq_cli.specs.Sayings.{Saying, Named, Valued, named, values_of, Becomes, AreKnown}
 use Rattle.pq_cli.specs.CommandWords.{nothing}
 use Rattle.pq_cli.specs.Parser.{read_of, settings_in}
 use Rattle.pq_cli.proofs.SayingsRead.{all_are_settings, settings_are_all}

@@ -12,7 +12,7 @@ use Rattle.pq_cli.specs.Sayings.{IsOptionName}
 use Rattle.pq_cli.proofs.SayingsRead.{WordIs, IsName, IsOpen, IsWhole, word_is}
 use Rattle.pq_cli.proofs.ClapRows.{used_good, AreGood}
 use Rattle.pq_cli.proofs.ClapWords.{open_long, whole_long}
-use Rattle.pq_cli.proofs.ClapSteps.{option_rule, kind_rule, AreRules, leaf, holding, between, behind, IsNoEnd, unknown_fault, whole_walked, whole_fault, open_walked, open_fault, name_step, second_name, value_step}
+use Rattle.pq_cli.proofs.ClapSteps.{option_rule, AreRules, leaf, holding, between, behind, IsNoEnd, unknown_fault, whole_walked, whole_fault, open_walked, open_fault, name_step, second_name, value_step}
 use Rattle.pq_cli.proofs.ClapWalk.{AreNoEnds}
 
 pub empty_parts : (a b : Kinds) → or_else a b ≡ [] → (a ≡ []) × (b ≡ [])

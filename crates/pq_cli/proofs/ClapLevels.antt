@@ -1,24 +1,19 @@
 -- What clap answers for the command line as a whole: the name of a command, and what is said behind it.
-use Rattle.std.proofs.Common.{◌≡◌, ◌∙◌, ◌⊎◌, inl, inr, refl, sym, ap, subst, ℕ, Bool, true, false, ◌&&◌, ◌||◌, not, List, [], ◌∷◌, ◌++◌, map, if◌then◌else◌, Option, None, Some}
-use Rattle.std.specs.Prelude.{codes, find, fold, is_some}
-use Rattle.std.specs.List.{list_any, AllByRecursion}
+use Rattle.std.proofs.Common.{◌≡◌, ◌∙◌, ◌⊎◌, inl, inr, refl, sym, ap, subst, Bool, true, false, ◌||◌, List, [], ◌∷◌, if◌then◌else◌, None, Some}
+use Rattle.std.specs.Prelude.{codes, fold}
+use Rattle.std.specs.List.{AllByRecursion}
 use Rattle.std.specs.Str.{bytes_eq}
-use Rattle.clap.specs.Lexer.{long_of, short_of}
 use Rattle.clap.specs.Kinds.{Kinds, or_else}
-use Rattle.clap.specs.Faults.{settle_fault, walk_fault, turn_fault, bundle_fault, default_fault, defaults_fault, level_fault, built_fault, fault_of, check_fault}
-use Rattle.clap.specs.Takes.{is_given}
-use Rattle.clap.specs.Simple.{App, Shape, built, entered, label_of, subcommand_of}
-use Rattle.clap.specs.Walk.{Row, Rule, Text, Held, Walk, idle, plain, bundle, walked, with_default, nothing_held, rows_after, stop_after, answers_to, settled_rows, has_row, arg_by_long, arg_by_id}
+use Rattle.clap.specs.Faults.{settle_fault, walk_fault, default_fault, defaults_fault, level_fault}
+use Rattle.clap.specs.Walk.{Row, Rule, Text, Held, walked, with_default, nothing_held, rows_after, settled_rows, has_row, arg_by_long, arg_by_id}
 use Rattle.clap.specs.declared.error.kind.ErrorKind.{ErrorKind}
-use Rattle.clap.specs.declared.error.kind.ErrorKind.TheVariants.{UnknownArgument, InvalidSubcommand, MissingSubcommand}
-use Rattle.clap.proofs.FaultLemmas.{stopped_fault}
 use Rattle.pq_cli.specs.declared.words.settings.Settings.{Settings}
 use Rattle.pq_cli.specs.Words.{settings_from, with_option}
 use Rattle.pq_cli.specs.Sayings.{IsOptionName}
 use Rattle.pq_cli.specs.CommandWords.{nothing}
-use Rattle.pq_cli.specs.Parser.{parser_app, settings_in}
-use Rattle.pq_cli.proofs.ClapRows.{same_bytes, bytes_self, differs, when, when_or, settings_by, AreGood}
-use Rattle.pq_cli.proofs.ClapSteps.{option_rule, kind_rule, AreRules, HasNoShort, leaf, between, and_false, bundle_is}
+use Rattle.pq_cli.specs.Parser.{settings_in}
+use Rattle.pq_cli.proofs.ClapRows.{same_bytes, differs, when, when_or, settings_by, AreGood}
+use Rattle.pq_cli.proofs.ClapSteps.{option_rule, kind_rule, AreRules, leaf, between}
 use Rattle.pq_cli.proofs.ClapWalk.{AreNoEnds, or_nil, walk_is_read}
 use Rattle.pq_cli.proofs.ClapGood.{empty_parts, rows_are_good}
 use Rattle.pq_cli.proofs.ClapFound.{found_is_said}

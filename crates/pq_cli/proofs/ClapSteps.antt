@@ -1,24 +1,19 @@
 -- One word of clap's walk over the words behind a command's name.
-use Rattle.std.proofs.Common.{◌≡◌, ◌∙◌, ◌⊎◌, inl, inr, refl, sym, ap, subst, ℕ, Bool, true, false, ◌==◌, ◌&&◌, List, [], ◌∷◌, ◌++◌, length, if◌then◌else◌, Option, None, Some}
-use Rattle.std.specs.Prelude.{codes, slice_get, fold, suc}
-use Rattle.std.specs.List.{AllByRecursion}
+use Rattle.std.proofs.Common.{◌≡◌, ◌∙◌, ◌⊎◌, inl, inr, refl, ap, subst, ℕ, Bool, true, false, ◌&&◌, List, [], ◌∷◌, ◌++◌, Option, None, Some}
+use Rattle.std.specs.Prelude.{codes, slice_get, fold}
 use Rattle.std.specs.Str.{bytes_eq, chars}
 use Rattle.clap.specs.Lexer.{long_of, short_of}
 use Rattle.clap.specs.Kinds.{Kinds, or_else}
 use Rattle.clap.specs.Faults.{use_fault, settle_fault, walk_fault, turn_fault, flags_fault, bundle_fault, bundle_step_fault}
 use Rattle.clap.specs.Simple.{Shape}
-use Rattle.clap.specs.Walk.{Row, Rule, Text, Held, Walk, Waiting, idle, option, Outcome, plain, used, settled_rows, is_pending, walked, bundle_met, bundle_step, bundle, arg_by_long, arg_by_short, arg_by_id, arg_by_index}
+use Rattle.clap.specs.Walk.{Row, Rule, Text, Held, Walk, idle, option, Outcome, plain, used, settled_rows, is_pending, walked, bundle_met, bundle_step, bundle, arg_by_long, arg_by_short, arg_by_id, arg_by_index}
 use Rattle.clap.specs.declared.error.kind.ErrorKind.{ErrorKind}
 use Rattle.clap.specs.declared.error.kind.ErrorKind.TheVariants.{UnknownArgument, InvalidValue}
 use Rattle.pq_cli.specs.declared.words.settings.Settings.{Settings}
-use Rattle.pq_cli.specs.declared.command.Kind.{Kind}
-use Rattle.pq_cli.specs.Words.{◌>>=◌, once, kind_of, which_of, branching_of, number_in, behind_dashes, pair_name, with_kind, with_option, with_lone, settings_from}
-use Rattle.pq_cli.specs.Words.{with_queue, with_workers, with_nodes, with_capacity, with_branching, with_seed, with_size}
-use Rattle.pq_cli.specs.CommandWords.{nothing}
-use Rattle.pq_cli.specs.Sayings.{IsOptionName, HasNoEquals}
-use Rattle.pq_cli.proofs.WordSteps.{lone_step, pair_step}
-use Rattle.pq_cli.proofs.SayingsRead.{WordIs, IsName, IsOpen, IsWhole, word_is, option_is, given, with_saying, named_word, open_word, whole_word}
-use Rattle.pq_cli.proofs.ClapRows.{bind_some, bind_bind, bind_same, bind_none, when, when_or, when_bind, when_none, settings_by, saying_of, text_rule, row_for, use_is, used_good, bytes_self, IsId, AreGood}
+use Rattle.pq_cli.specs.Words.{behind_dashes, with_kind, with_option}
+use Rattle.pq_cli.specs.Sayings.{IsOptionName}
+use Rattle.pq_cli.proofs.SayingsRead.{WordIs, IsName, IsOpen, IsWhole}
+use Rattle.pq_cli.proofs.ClapRows.{when, when_or, settings_by, text_rule, bytes_self}
 use Rattle.pq_cli.proofs.ClapWords.{open_long, whole_long, not_long, dash_kind, dash_option, short_cases}
 
 abbrev pub option_rule : Text → Rule

@@ -1,23 +1,22 @@
 -- The first word names a command, and clap goes on with those behind it; or it does not, and clap refuses the words.
-use Rattle.std.proofs.Common.{◌≡◌, ◌∙◌, ◌⊎◌, inl, inr, refl, sym, ap, subst, ℕ, Bool, true, false, ◌&&◌, ◌||◌, not, List, [], ◌∷◌, ◌++◌, map, if◌then◌else◌, Option, None, Some}
+use Rattle.std.proofs.Common.{◌≡◌, ◌∙◌, ◌⊎◌, inl, inr, refl, sym, ap, ℕ, Bool, true, false, List, [], ◌∷◌, ◌++◌, map, Option, None, Some}
 use Rattle.std.specs.Prelude.{codes, find, fold, is_some}
-use Rattle.std.specs.List.{list_any, AllByRecursion}
+use Rattle.std.specs.List.{AllByRecursion}
 use Rattle.std.specs.Str.{bytes_eq}
 use Rattle.clap.specs.Lexer.{long_of, short_of}
 use Rattle.clap.specs.Kinds.{Kinds, or_else}
-use Rattle.clap.specs.Faults.{settle_fault, walk_fault, turn_fault, bundle_fault, defaults_fault, built_fault, entered_fault, fault_of, check_fault, is_simple_and_free}
+use Rattle.clap.specs.Faults.{settle_fault, walk_fault, turn_fault, defaults_fault, built_fault, entered_fault, fault_of, check_fault, is_simple_and_free}
 use Rattle.clap.specs.Simple.{App, Shape, built, entered, is_simple, label_of, names_of, subcommand_of}
-use Rattle.clap.specs.Walk.{Names, Row, Rule, Text, Walk, idle, plain, bundle, finished, settled, walk, walk_from, walked, nothing_held, answers_to}
+use Rattle.clap.specs.Walk.{Names, Text, Walk, idle, finished, settled, walk, walk_from, walked, nothing_held, answers_to}
 use Rattle.clap.specs.declared.error.kind.ErrorKind.{ErrorKind}
 use Rattle.clap.specs.declared.error.kind.ErrorKind.TheVariants.{UnknownArgument, InvalidSubcommand, MissingSubcommand}
 use Rattle.clap.proofs.FaultLemmas.{stopped_fault}
-use Rattle.pq_cli.specs.declared.words.settings.Settings.{Settings}
 use Rattle.pq_cli.specs.Words.{settings_from}
 use Rattle.pq_cli.specs.CommandWords.{nothing}
 use Rattle.pq_cli.specs.Parser.{parser_app, settings_in}
 use Rattle.pq_cli.proofs.ClapRows.{same_bytes, differs, nothing_more}
 use Rattle.pq_cli.proofs.ClapWords.{short_cases}
-use Rattle.pq_cli.proofs.ClapSteps.{leaf, holding, and_false, bundle_is, IsNoEnd}
+use Rattle.pq_cli.proofs.ClapSteps.{leaf, and_false, bundle_is, IsNoEnd}
 use Rattle.pq_cli.proofs.ClapWalk.{AreNoEnds, or_nil}
 use Rattle.pq_cli.proofs.ClapLevels.{rules, leaf_fault, leaf_rows, taken_words, refused_words}
 

@@ -1,25 +1,23 @@
 -- Clap's walk over the words behind a command's name, beside the settings that these words are read as.
-use Rattle.std.proofs.Common.{◌≡◌, ◌∙◌, ◌⊎◌, inl, inr, refl, sym, ap, subst, ℕ, Bool, true, false, ◌==◌, ◌&&◌, List, [], ◌∷◌, ◌++◌, length, if◌then◌else◌, Option, None, Some}
-use Rattle.std.specs.Prelude.{codes, slice_get, fold, suc}
+use Rattle.std.proofs.Common.{◌≡◌, ◌∙◌, ◌⊎◌, inl, inr, refl, sym, ap, subst, ℕ, false, List, [], ◌∷◌, Option, None, Some}
+use Rattle.std.specs.Prelude.{codes}
 use Rattle.std.specs.List.{AllByRecursion}
-use Rattle.std.specs.Str.{bytes_eq, chars}
-use Rattle.clap.specs.Lexer.{long_of, short_of}
+use Rattle.std.specs.Str.{bytes_eq}
+use Rattle.clap.specs.Lexer.{long_of}
 use Rattle.clap.specs.Kinds.{Kinds, or_else}
-use Rattle.clap.specs.Faults.{use_fault, settle_fault, walk_fault, turn_fault, flags_fault, bundle_fault, bundle_step_fault}
-use Rattle.clap.specs.Simple.{Shape}
-use Rattle.clap.specs.Walk.{Row, Rule, Text, Held, Walk, Waiting, idle, option, Outcome, plain, used, settled_rows, is_pending, walked, bundle_met, bundle_step, bundle, arg_by_long, arg_by_short, arg_by_id, arg_by_index}
+use Rattle.clap.specs.Faults.{use_fault, settle_fault, walk_fault, turn_fault}
+use Rattle.clap.specs.Walk.{Row, Rule, Text, Walk, used, settled_rows, walked}
 use Rattle.clap.specs.declared.error.kind.ErrorKind.{ErrorKind}
-use Rattle.clap.specs.declared.error.kind.ErrorKind.TheVariants.{UnknownArgument, InvalidValue}
+use Rattle.clap.specs.declared.error.kind.ErrorKind.TheVariants.{UnknownArgument}
 use Rattle.pq_cli.specs.declared.words.settings.Settings.{Settings}
 use Rattle.pq_cli.specs.declared.command.Kind.{Kind}
 use Rattle.pq_cli.specs.Words.{◌>>=◌, once, kind_of, which_of, branching_of, number_in, behind_dashes, pair_name, with_kind, with_option, with_lone, settings_from}
 use Rattle.pq_cli.specs.Words.{with_queue, with_workers, with_nodes, with_capacity, with_branching, with_seed, with_size}
 use Rattle.pq_cli.specs.CommandWords.{nothing}
-use Rattle.pq_cli.specs.Sayings.{IsOptionName, HasNoEquals}
-use Rattle.pq_cli.proofs.WordSteps.{lone_step, pair_step}
-use Rattle.pq_cli.proofs.SayingsRead.{WordIs, IsName, IsOpen, IsWhole, word_is, option_is, given, with_saying, named_word, open_word, whole_word}
-use Rattle.pq_cli.proofs.ClapRows.{bind_some, bind_bind, bind_same, bind_none, when, when_or, when_bind, when_none, settings_by, saying_of, text_rule, row_for, use_is, used_good, bytes_self, IsId, AreGood}
-use Rattle.pq_cli.proofs.ClapWords.{open_long, whole_long, not_long, dash_kind, dash_option, short_cases}
+use Rattle.pq_cli.specs.Sayings.{IsOptionName}
+use Rattle.pq_cli.proofs.SayingsRead.{WordIs, IsName, IsOpen, IsWhole, word_is, option_is, given, named_word, open_word, whole_word}
+use Rattle.pq_cli.proofs.ClapRows.{bind_some, bind_bind, bind_same, bind_none, when, when_or, when_bind, when_none, settings_by, use_is}
+use Rattle.pq_cli.proofs.ClapWords.{open_long, whole_long}
 use Rattle.pq_cli.proofs.ClapSteps.{one_more, unknown_fault, whole_walked, whole_fault, open_walked, open_fault, name_step, second_name, value_step, option_rule, leaf, holding, between, behind, so_far, comes_to, IsNoEnd, AreRules}
 
 -- the product's own reading, word by word

@@ -1,13 +1,11 @@
 -- What a word looks like to clap, and to the product's own reading.
-use Rattle.std.proofs.Common.{◌≡◌, ◌∙◌, ◌⊎◌, inl, inr, refl, sym, ap, subst, ℕ, ◌+◌, Bool, true, false, ◌==◌, ◌||◌, ◌&&◌, List, [], ◌∷◌, ◌++◌, length, take, drop, if◌then◌else◌, Option, None, Some, arith}
+use Rattle.std.proofs.Common.{◌≡◌, ◌∙◌, ◌⊎◌, inl, inr, refl, sym, ap, ℕ, ◌+◌, Bool, true, false, ◌==◌, ◌||◌, [], ◌∷◌, ◌++◌, length, take, drop, Option, None, Some, arith}
 use Rattle.std.proofs.lemmas.Bool.Decides.{nat_tests}
-use Rattle.std.specs.Prelude.{codes}
-use Rattle.std.specs.List.{list_any, position_or_len}
 use Rattle.std.specs.Str.{bytes_eq}
-use Rattle.clap.specs.Lexer.{long_of, long_of_rest, short_of, has_byte, name_and_value}
+use Rattle.clap.specs.Lexer.{long_of, short_of, has_byte, name_and_value}
 use Rattle.clap.specs.Walk.{Text}
 use Rattle.pq_cli.specs.declared.words.settings.Settings.{Settings}
-use Rattle.pq_cli.specs.Words.{behind_dashes, kind_of, which_of, branching_of, number_in, with_kind, with_option, with_queue, with_workers, with_nodes, with_capacity, with_branching, with_seed, with_size}
+use Rattle.pq_cli.specs.Words.{behind_dashes, number_in, with_kind, with_option, with_queue, with_workers, with_nodes, with_capacity, with_branching, with_seed, with_size}
 use Rattle.pq_cli.specs.Sayings.{HasNoEquals}
 use Rattle.pq_io.specs.Reading.{number_of}
 use Rattle.pq_cli.proofs.SayingsRead.{place, nowhere, take_own, drop_own, option_is}

@@ -1,5 +1,5 @@
 -- What the search of a drill comes to.
-use Rattle.std.proofs.Common.{◌≡◌, ◌≤◌, ◌∙◌, ℕ, List, refl, sym, Err, arith}
+use Rattle.std.proofs.Common.{◌≡◌, ◌≤◌, ℕ, List, refl, Err, arith}
 use Rattle.inst_text.specs.Knapsack.{Instance}
 use Rattle.bb_problem.specs.Tree.{needed}
 use Rattle.bb_knap.specs.Plans.{value_of, IsFeasible, IsBest, IsCheapest}

@@ -1,5 +1,5 @@
 -- What a search ended with, as a plan or a refusal.
-use Rattle.std.proofs.Common.{◌≡◌, ◌≢◌, ◌≤◌, false, refl, subst, ℕ}
+use Rattle.std.proofs.Common.{◌≡◌, ◌≢◌, ◌≤◌, false, subst, ℕ}
 use Rattle.bb_problem.specs.Meaning.{Meaning}
 use Rattle.bb_pool.specs.declared.outcome.Outcome.{Outcome}
 use Rattle.bb_pool.specs.declared.outcome.Outcome.TheVariants as outcomes

@@ -1,5 +1,5 @@
 -- The commands that use a queue of several callers.
-use Rattle.std.proofs.Common.{◌≡◌, ◌≤◌, ◌+◌, ◌*◌, refl, ℕ, Some, arith}
+use Rattle.std.proofs.Common.{◌≡◌, ◌≤◌, ◌*◌, refl, ℕ, Some, arith}
 use Rattle.std.proofs.lemmas.Nat.{mul-le}
 use Rattle.pq_model.specs.Limits.{max_seats, max_capacity}
 use Rattle.pq_cli.specs.declared.command.Command.{Command}
