@@ -64,10 +64,7 @@ fn answer_in(parsed: Result<ArgMatches, Error>) -> Result<Command, WordsRefusal>
 fn has_end(words: &[String]) -> bool
     ensures { result ≡ has_end (texts words.now) }
 {
-    let Some((word, behind)) = words.split_first() else {
-        return false;
-    };
-    word.as_str().as_bytes() == b"--".as_slice() || has_end(behind)
+    words.iter().any(|word| word.as_str() == "--")
 }
 
 // Whatever clap finds amiss is bad words, but that it has no memory.
