@@ -1,5 +1,7 @@
 //! What ends a search early.
 
+use pq_io::NoMemory;
+
 /// What ends a search early.
 #[derive(Clone, Copy, Debug, PartialEq, Eq)]
 pub enum Stop {
@@ -9,4 +11,15 @@ pub enum Stop {
     Full { place: u32 },
     /// There was no memory.
     NoMemory,
+}
+
+impl From<NoMemory> for Stop {
+    ghost use Rattle.std.specs.Prelude.{◌≡◌};
+    ghost use Rattle.bb_shared.specs.declared.control.stop.Stop.TheVariants as stops;
+
+    ghost from_gives = { λ _ stop. stop ≡ stops.NoMemory };
+
+    fn from(_error: NoMemory) -> Stop {
+        Stop::NoMemory
+    }
 }

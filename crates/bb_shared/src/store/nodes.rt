@@ -66,6 +66,11 @@ impl<N> Model for StoreSeat<N> {
 impl<N: Drop> Store<N> {
     /// A store of so many numbers, none of which is drawn, and all its seats at once. Takes all memory that the store
     /// needs: eight bytes and a slot for each number, and as much again until it returns, in time linear in `nodes`.
+    ///
+    /// A slot holds the node itself, not a box of it, and is written when the store is made and when it is dropped. So
+    /// a node should be small, and own what is large. A store of `MAX_NODES` numbers, with nodes of 40 bytes and so
+    /// slots of 48, takes some 60 megabytes, and opens and is dropped in about a tenth of a second of processor time,
+    /// most of it the system's for the pages.
     pub fn open(
         alloc: Global,
         nodes: u32,
