@@ -8,6 +8,7 @@ pub mod Needs
 pub mod Counts
 pub mod Searches
 pub mod Bounds
+pub mod Ending
 pub mod OnePass
 pub mod Numbers
 pub mod Several

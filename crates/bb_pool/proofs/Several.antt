@@ -1,7 +1,6 @@
 -- The search by several workers: what each call of a worker keeps, what two workers have together, and what the last call
 -- of all says.
 pub mod Marks
-pub mod Ending
 pub mod Following
 pub mod Turning
 pub mod Expanded

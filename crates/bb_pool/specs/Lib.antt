@@ -12,7 +12,6 @@ pub mod OneSeat
 pub mod Underway
 pub mod Working
 pub mod Room
-pub mod LastCalls
 pub mod Origins
 pub mod Together
 pub mod Turns

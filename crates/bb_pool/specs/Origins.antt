@@ -57,6 +57,10 @@ pub record IsTraced {N L : Type 0} (m : Meaning N L) (root : Option ℕ) (held :
   pub put : (p : Numbered N) → Contains s.puts p
       → ((root ≡ Some p.number) × m.stands p.node []) ⊎ ((o : Origin N) × Contains origins o × IsChildOf m o p)
 
+-- Where no node is held, it was so before and is so now, whatever number the root has.
+abbrev pub StaysTraced : {N L : Type 0} → Meaning N L → Stored N → Stored N → Type 0
+StaysTraced m s t = (root : Option ℕ) → IsTraced m root [] s → IsTraced m root [] t
+
 -- It is so, and the origin is one of them.
 pub record HasOrigin {N L : Type 0} (m : Meaning N L) (root : Option ℕ) (o : Origin N) (s : Stored N) : Type 0 where
   pub traced : IsTraced m root [] s

@@ -6,8 +6,8 @@ use Rattle.bb_problem.specs.Meaning.{Meaning}
 use Rattle.bb_pool.specs.Endings.{EndsAt, IsFullMark}
 use Rattle.bb_pool.specs.declared.outcome.Outcome.{Outcome}
 use Rattle.bb_pool.specs.declared.outcome.Outcome.TheVariants as outcomes
-use Rattle.bb_pool.specs.declared.outcome.Stop.{Stop}
-use Rattle.bb_pool.specs.declared.outcome.Stop.TheVariants.{NodeLimit, Full, NoMemory}
+use Rattle.bb_shared.specs.declared.control.stop.Stop.{Stop}
+use Rattle.bb_shared.specs.declared.control.stop.Stop.TheVariants.{NodeLimit, Full, NoMemory}
 
 -- the plan is feasible, this is its cost, and no feasible plan costs less
 pub record IsOptimal {P : Type 0} (feasible : P → Type 0) (cost_of : P → ℕ) (plan : P) (cost : ℕ) : Type 0 where
@@ -41,7 +41,7 @@ pub record IsBest {N P : Type 0} (m : Meaning N P) (nodes capacity : ℕ) (plan 
     : Type 0 where
   pub optimal : IsOptimal m.is_feasible m.cost_of plan cost
   pub limits : LeaveRoom m.tree m.least nodes capacity
-  pub ended : EndsAt capacity cost known
+  pub ended : EndsAt 1 capacity cost known
 
 -- What each outcome of a search with one caller says, under this node limit, on a queue of this capacity. That
 -- there is no memory says nothing.

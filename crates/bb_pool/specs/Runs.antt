@@ -1,5 +1,5 @@
 -- A worker's run, from its first turn to its last, and two workers that are joined.
-use Rattle.std.specs.Prelude.{ℕ, ◌≡◌, ◌+◌, List}
+use Rattle.std.specs.Prelude.{ℕ, ◌≡◌, ◌+◌, List, []}
 use Rattle.pq_model.specs.declared.passes.Known.{Known}
 use Rattle.pq_model.specs.Passes.{joined_with, Knows}
 use Rattle.bb_problem.specs.Meaning.{Meaning}
@@ -47,9 +47,20 @@ pub record IsJoinedOf {N L : Type 0} (nodes seats capacity : ℕ) (v other w : D
   pub knows_store : KnowsStore nodes w.stored
   pub knows : Knows seats capacity w.known
 
+-- The worker of this number is about to take its first turn.
+abbrev pub IsReady : {Q A N L : Type 0} → (Q → A → Type 0) → (A → Known) → (Q → ℕ) → (Q → ℕ) → Meaning N L
+    → Shared Q N → ℕ → Worker A N L → Type 0
+IsReady belongs known seats_of capacity_of m shared n w = IsOneOf belongs shared w × (w.control.kept.stops ≡ [])
+    × IsTogether m shared.nodes (seats_of shared.queue) (capacity_of shared.queue) idle_calls n n (doing known w)
+
+-- The worker of this number has taken its last turn.
+abbrev pub HasEnded : {Q A N L : Type 0} → (Q → A → Type 0) → (A → Known) → (Q → ℕ) → (Q → ℕ) → Meaning N L
+    → Shared Q N → ℕ → Worker A N L → Type 0
+HasEnded belongs known seats_of capacity_of m shared n w = IsOneOf belongs shared w
+    × IsTogether m shared.nodes (seats_of shared.queue) (capacity_of shared.queue) (idle_calls + 1) n n (doing known w)
+
 -- These workers, which have the numbers above this one, have ended.
-abbrev pub AreEnded : {Q A N L : Type 0} → (Q → A → Type 0) → (A → Known) → Meaning N L → Shared Q N
-    → ℕ → ℕ → ℕ → List (Worker A N L)
-    → Type 0
-AreEnded belongs known m shared seats capacity n workers = EachAt (λ k w. IsOneOf belongs shared w
-    × IsTogether m shared.nodes seats capacity (idle_calls + 1) (n + k + 1) (n + k + 1) (doing known w)) workers
+abbrev pub AreEnded : {Q A N L : Type 0} → (Q → A → Type 0) → (A → Known) → (Q → ℕ) → (Q → ℕ) → Meaning N L
+    → Shared Q N → ℕ → List (Worker A N L) → Type 0
+AreEnded belongs known seats_of capacity_of m shared n workers =
+    EachAt (λ k w. HasEnded belongs known seats_of capacity_of m shared (n + k + 1) w) workers

@@ -1,37 +1,32 @@
 -- What the outcomes of a search by several workers mean.
 use Rattle.std.specs.Prelude.{ℕ, ◌≡◌, ◌+◌, ◌<◌, IsSomeAnd}
+use Rattle.pq_model.specs.declared.passes.Known.{Known}
 use Rattle.bb_problem.specs.Meaning.{Meaning}
 use Rattle.bb_shared.specs.declared.control.stop.Stop.{Stop}
-use Rattle.bb_shared.specs.declared.control.stop.Stop.TheVariants as stops
 use Rattle.bb_pool.specs.declared.outcome.Outcome.{Outcome}
 use Rattle.bb_pool.specs.declared.outcome.Outcome.TheVariants as outcomes
-use Rattle.bb_pool.specs.Endings.{IsFullMark}
-use Rattle.bb_pool.specs.Outcomes.{IsOptimal}
+use Rattle.bb_pool.specs.Costs.{limit_of}
+use Rattle.bb_pool.specs.Endings.{EndsAt, IsFullMark}
+use Rattle.bb_pool.specs.Outcomes.{IsOptimal, outcome_of}
 use Rattle.bb_pool.specs.Underway.{cost_so_far}
-use Rattle.bb_pool.specs.LastCalls.{EndsBelow, EndsSomewhere}
 use Rattle.bb_pool.specs.Together.{Doing}
 
 -- What each outcome says, under this node limit, on a queue of this capacity and with so many seats. That there is no
 -- memory says nothing.
 abbrev pub IsSearchOutcome : {N P : Type 0} → Meaning N P → ℕ → ℕ → ℕ → Outcome P → Type 0
 IsSearchOutcome m nodes capacity seats (outcomes.Best plan cost) =
-    IsOptimal m.is_feasible m.cost_of plan cost × EndsSomewhere seats capacity cost
+    IsOptimal m.is_feasible m.cost_of plan cost × (known : Known) × EndsAt seats capacity cost known
 IsSearchOutcome m nodes capacity seats (outcomes.NodeLimit asked limit) =
     (limit ≡ nodes) × (limit < asked) × (limit < m.tree_size)
 IsSearchOutcome m nodes capacity seats (outcomes.Full place) =
     (capacity < nodes + seats) × IsFullMark seats capacity place
 IsSearchOutcome m nodes capacity seats outcomes.NoMemory = Unit {0}
 
--- the outcome of a search that was stopped, under this node limit
-abbrev pub answer_of : {P : Type 0} → Stop → ℕ → Outcome P
-answer_of (stops.NodeLimit asked) limit = outcomes.NodeLimit asked limit
-answer_of (stops.Full place) limit = outcomes.Full place
-answer_of stops.NoMemory limit = outcomes.NoMemory
-
+-- the same of what ends a search early
 abbrev pub IsSearchStop : {N P : Type 0} → Meaning N P → ℕ → ℕ → ℕ → Stop → Type 0
-IsSearchStop m nodes capacity seats stop = IsSearchOutcome m nodes capacity seats (answer_of stop nodes)
+IsSearchStop m nodes capacity seats stop = IsSearchOutcome m nodes capacity seats (outcome_of stop nodes)
 
 -- There is a best plan, it is optimal, and the worker's last call asked for an entry below its cost and found none.
 pub record IsSolved {N P : Type 0} (m : Meaning N P) (seats capacity : ℕ) (w : Doing N P) : Type 0 where
-  pub ends : EndsBelow seats capacity w.known (cost_so_far w.found)
+  pub ends : EndsAt seats capacity (limit_of (cost_so_far w.found)) w.known
   pub optimal : IsSomeAnd w.found (λ f. IsOptimal m.is_feasible m.cost_of f.plan f.cost)

@@ -18,7 +18,8 @@ use Rattle.bb_pool.specs.declared.child.Child.{Child}
 use Rattle.bb_pool.specs.declared.workers.turn.Turn.{Turn}
 use Rattle.bb_pool.specs.declared.workers.turn.Turn.TheVariants.{Worked, Idle}
 use Rattle.bb_pool.specs.Underway.{cost_so_far}
-use Rattle.bb_pool.specs.LastCalls.{IsWhole, EndsBelow}
+use Rattle.bb_pool.specs.Costs.{limit_of}
+use Rattle.bb_pool.specs.Endings.{IsWhole, EndsAt}
 use Rattle.bb_pool.specs.Working.{Waiting, IsHolding, IsInTurn}
 use Rattle.bb_pool.specs.Together.{Doing, AtWork, GoesOn, IsCause}
 
@@ -67,11 +68,15 @@ pub record IsPut {N L : Type 0} (v w : Doing N L) (child : Child N) (number : �
 -- workers, once all are joined.
 abbrev pub EndsIfWhole : {N L : Type 0} → ℕ → ℕ → Doing N L → Type 0
 EndsIfWhole seats capacity w = w.told.parts ≡ w.told.seats → IsWhole seats w.known
-    → EndsBelow seats capacity w.known (cost_so_far w.found) × (w.told.read ≡ w.told.own)
+    → EndsAt seats capacity (limit_of (cost_so_far w.found)) w.known × (w.told.read ≡ w.told.own)
+
+-- Since the first of these moments no call found nothing, and it is at work again.
+abbrev pub HasWorked : {N L : Type 0} → Meaning N L → ℕ → Doing N L → Doing N L → Type 0
+HasWorked m nodes v w = GoesOn nodes 0 v w × AtWork m w
 
 -- After a turn it is at work again. Where it met no entry, one call more found nothing.
 abbrev pub IsTurn : {N L : Type 0} → Meaning N L → ℕ → ℕ → ℕ → Doing N L → Doing N L → Turn → Type 0
-IsTurn m nodes seats capacity v w Worked = GoesOn nodes 0 v w × AtWork m w
+IsTurn m nodes seats capacity v w Worked = HasWorked m nodes v w
 IsTurn m nodes seats capacity v w Idle = GoesOn nodes 1 v w × AtWork m w × EndsIfWhole seats capacity w
 
 -- A stop comes with its cause, and can be told.

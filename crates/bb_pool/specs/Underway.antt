@@ -1,16 +1,16 @@
 -- A search with one caller.
 use Rattle.std.specs.Prelude.{ℕ, ◌≡◌, ◌+◌, ◌*◌, ◌≤◌, ◌<◌, List, [], ◌∷◌, ◌++◌, length, slice_get, slice_set}
-use Rattle.std.specs.Prelude.{Option, Some, None}
+use Rattle.std.specs.Prelude.{Option, Some, None, IfSome}
 use Rattle.std.specs.declared.ops.ControlFlow.{ControlFlow}
 use Rattle.std.specs.declared.ops.ControlFlow.TheVariants.{Continue, Break}
 use Rattle.pq_words.specs.declared.entries.Entry.{Entry}
 use Rattle.pq_model.specs.declared.passes.Known.{Known}
-use Rattle.pq_model.specs.Multiset.{add}
+use Rattle.pq_model.specs.Multiset.{add, least}
 use Rattle.bb_problem.specs.Meaning.{Meaning, IsLawful}
 use Rattle.bb_pool.specs.declared.outcome.Outcome.{Outcome}
 use Rattle.bb_pool.specs.declared.outcome.Outcome.TheVariants as outcomes
-use Rattle.bb_pool.specs.declared.outcome.Stop.{Stop}
-use Rattle.bb_pool.specs.declared.outcome.Stop.TheVariants.{NodeLimit, Full, NoMemory}
+use Rattle.bb_shared.specs.declared.control.stop.Stop.{Stop}
+use Rattle.bb_shared.specs.declared.control.stop.Stop.TheVariants.{NodeLimit, Full, NoMemory}
 use Rattle.bb_pool.specs.declared.found.Found.{Found}
 use Rattle.bb_pool.specs.declared.child.Child.{Child}
 use Rattle.bb_pool.specs.declared.state.Search.{Search}
@@ -92,10 +92,11 @@ pub record IsTaken {N P : Type 0} (before : State N P) (child : Child N) (now : 
   pub capacity : now.queue.capacity ≡ before.queue.capacity
   pub best : now.best ≡ before.best
 
--- No entry was left whose key is below the best cost.
+-- No entry was left whose key is below the best cost, and a removal below it said so.
 pub record IsSpent {N P : Type 0} (before now : State N P) : Type 0 where
   pub same : held now.queue ≡ held before.queue
-  pub ended : EndsAt before.queue.capacity (limit_of (cost_so_far before.best)) now.queue.known
+  pub high : IfSome (least (held before.queue)) (λ (e : Entry). limit_of (cost_so_far before.best) ≤ e.key)
+  pub ended : EndsAt 1 before.queue.capacity (limit_of (cost_so_far before.best)) now.queue.known
   pub best : now.best ≡ before.best
 
 -- the best plan so far is one of least cost, and the limits were obeyed

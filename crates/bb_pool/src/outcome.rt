@@ -1,6 +1,11 @@
 //! How a search ends.
 
-use pq_io::NoMemory;
+ghost use Rattle.std.specs.Prelude.{◌≡◌, IsSome};
+ghost use Rattle.bb_pool.specs.Outcomes.{outcome_of};
+ghost use Rattle.bb_pool.specs.Underway.{best_outcome};
+
+use crate::found::Found;
+use bb_shared::Stop;
 
 /// How a search ended.
 #[derive(Debug, Drop)]
@@ -15,21 +20,24 @@ pub enum Outcome<P> {
     NoMemory,
 }
 
-/// What ends a search early.
-#[derive(Clone, Copy, Debug)]
-pub(crate) enum Stop {
-    NodeLimit { asked: u64 },
-    Full { place: u32 },
-    NoMemory,
+/// The outcome of a search that is over: its best plan.
+pub(crate) fn of_best<P: Drop>(found: Option<Found<P>>) -> Outcome<P>
+    requires { IsSome found }
+    ensures { result ≡ best_outcome found }
+{
+    let Some(Found { plan, cost }) = found else {
+        unreachable!()
+    };
+    Outcome::Best { plan, cost }
 }
 
-impl From<NoMemory> for Stop {
-    ghost use Rattle.std.specs.Prelude.{◌≡◌};
-    ghost use Rattle.bb_pool.specs.declared.outcome.Stop.TheVariants as stops;
-
-    ghost from_gives = { λ _ stop. stop ≡ stops.NoMemory };
-
-    fn from(_error: NoMemory) -> Stop {
-        Stop::NoMemory
+/// The outcome of a search that was stopped, under this node limit.
+pub(crate) fn of_stop<P>(stop: Stop, limit: u32) -> Outcome<P>
+    ensures { result ≡ outcome_of stop limit }
+{
+    match stop {
+        Stop::NodeLimit { asked } => Outcome::NodeLimit { asked, limit },
+        Stop::Full { place } => Outcome::Full { place },
+        Stop::NoMemory => Outcome::NoMemory,
     }
 }

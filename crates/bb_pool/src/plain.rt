@@ -1,20 +1,21 @@
 //! The search with one caller, over a plain queue.
 
-ghost use Rattle.std.specs.Prelude.{ℕ, ◌≡◌, ◌≤◌, ◌<◌, List, [], IfOk, IfErr, IsSome, length};
+ghost use Rattle.std.specs.Prelude.{ℕ, ◌≡◌, ◌≤◌, ◌<◌, List, [], IfOk, IfErr, length};
 ghost use Rattle.pq_model.specs.Passes.{fresh};
 ghost use Rattle.bb_problem.specs.Limits.{max_children};
 ghost use Rattle.bb_pool.specs.Limits.{max_nodes};
-ghost use Rattle.bb_pool.specs.Outcomes.{IsOutcome, IsStop, outcome_of, IfNodeLimit};
+ghost use Rattle.bb_pool.specs.Outcomes.{IsOutcome, IsStop, IfNodeLimit};
 ghost use Rattle.bb_pool.specs.Children.{StandAt};
-ghost use Rattle.bb_pool.specs.Underway.{state_of, IsUnderway, IsOver, IsTurn, best_outcome};
+ghost use Rattle.bb_pool.specs.Underway.{state_of, IsUnderway, IsOver, IsTurn};
 
 use crate::children::{bounds, is_below};
 use crate::found::Found;
 use crate::one_pass::OnePass;
-use crate::outcome::{Outcome, Stop};
+use crate::outcome::{Outcome, of_best, of_stop};
 use crate::state::Search;
 use crate::store::Store;
 use bb_problem::{Problem, Step, needed_is_at_most_tree_size};
+use bb_shared::Stop;
 use pq_api::PlainPass;
 use pq_model::left_rises;
 use std::alloc::Global;
@@ -65,11 +66,11 @@ pub(crate) fn search_turns<C: OnePass, P: Problem>(
     needed_is_at_most_tree_size(problem);
     let mut search = match begin(alloc, problem, pass, nodes) {
         Ok(search) => search,
-        Err(stop) => return stopped(stop, nodes),
+        Err(stop) => return of_stop(stop, nodes),
     };
     match go_on(alloc, problem, &mut search, nodes) {
-        Ok(()) => finish(search),
-        Err(stop) => stopped(stop, nodes),
+        Ok(()) => of_best(search.best),
+        Err(stop) => of_stop(stop, nodes),
     }
 }
 
@@ -182,31 +183,4 @@ fn branch<C: OnePass, P: Problem>(
         search.put(key, node)?;
     }
     Ok(())
-}
-
-// The outcome of a search that is over: its best plan.
-fn finish<C: Drop, N: Drop, P: Drop>(search: Search<C, N, P>) -> Outcome<P>
-    requires { IsSome search.best }
-    ensures { result ≡ best_outcome search.best }
-{
-    let Search {
-        pass: _,
-        store: _,
-        keys: _,
-        best,
-    } = search;
-    let Some(Found { plan, cost }) = best else {
-        unreachable!()
-    };
-    Outcome::Best { plan, cost }
-}
-
-fn stopped<P>(stop: Stop, limit: u32) -> Outcome<P>
-    ensures { result ≡ outcome_of stop limit }
-{
-    match stop {
-        Stop::NodeLimit { asked } => Outcome::NodeLimit { asked, limit },
-        Stop::Full { place } => Outcome::Full { place },
-        Stop::NoMemory => Outcome::NoMemory,
-    }
 }

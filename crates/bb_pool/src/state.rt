@@ -7,8 +7,8 @@ ghost use Rattle.pq_api.specs.Limits.{call_limit};
 use crate::child::Child;
 use crate::found::Found;
 use crate::one_pass::OnePass;
-use crate::outcome::Stop;
 use crate::store::Store;
+use bb_shared::Stop;
 use pq_api::{Below, Inserted, full_with_one_seat, one_seat_has_made_all, one_seat_steps};
 use pq_words::{Entry, KEY_LIMIT};
 

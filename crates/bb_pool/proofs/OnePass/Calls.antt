@@ -1,6 +1,6 @@
 -- What a call of the queue did, said of a search's fields.
 use Rattle.std.proofs.Common.{◌≡◌, ℕ, ◌+◌, ◌<◌, ◌≤◌, List, [], ◌∷◌, ◌++◌, length, set, Some, None, refl, sym, ap, ◌∙◌, subst, arith}
-use Rattle.std.specs.Prelude.{slice_get, All, Contains, IfSome, IsSomeAnd}
+use Rattle.std.specs.Prelude.{slice_get, All, Contains, IfSome}
 use Rattle.std.proofs.Math.Seq.{take-append_seam}
 use Rattle.std.proofs.lemmas.List.{length-append, map-append}
 use Rattle.std.proofs.lemmas.List.Elements.{All-head, Contains-append_right}
@@ -8,7 +8,7 @@ use Rattle.pq_words.specs.declared.entries.Entry.{Entry}
 use Rattle.pq_model.specs.declared.marks.Act.{Act}
 use Rattle.pq_model.specs.declared.marks.Act.TheVariants.{Insert, RemoveBelow}
 use Rattle.pq_model.specs.declared.marks.Reply.{Reply}
-use Rattle.pq_model.specs.declared.marks.Reply.TheVariants.{Done, Got, Empty, Full, Above}
+use Rattle.pq_model.specs.declared.marks.Reply.TheVariants.{Done, Got, Full}
 use Rattle.pq_model.specs.declared.marks.Mark.{Mark}
 use Rattle.pq_model.specs.declared.passes.Call.{Call}
 use Rattle.pq_model.specs.declared.passes.Known.{Known}
@@ -24,11 +24,12 @@ use Rattle.bb_problem.specs.Meaning.{Meaning, IsLawful}
 use Rattle.bb_pool.specs.declared.child.Child.{Child}
 use Rattle.bb_pool.specs.OneSeat.{held}
 use Rattle.bb_pool.specs.Costs.{limit_of}
-use Rattle.bb_pool.specs.Endings.{EndsAt, IsFullMark}
+use Rattle.bb_pool.specs.Endings.{IsWhole, IsNoneBelow, EndsAt, IsFullMark}
 use Rattle.bb_pool.specs.Underway.{State, cost_so_far, IsFound, IsUnderway, IsPut, IsTaken, IsSpent}
 use Rattle.bb_pool.proofs.Members.{Contains-here}
 use Rattle.bb_pool.proofs.Names.{slice_get-new}
 use Rattle.bb_pool.proofs.Searches.{root_waits}
+use Rattle.bb_pool.proofs.Ending.{none_below, none_taken, ends_at}
 use Rattle.bb_pool.proofs.OnePass.Turns.{same_search}
 
 one_more : (before now : Known) (place : ℕ) (act : Act) (reply : Reply) → now ≡ with_call before place act reply → length now.calls ≡ length before.calls + 1
@@ -91,41 +92,19 @@ pub got_least : (capacity place limit : ℕ) (before now : Known) (e : Entry) �
     → least (left (marks_of before)) ≡ Some e
 got_least capacity place limit before now e steps one called knows = (steps capacity place before now (RemoveBelow limit) (Got e) one called knows).0.0
 
--- nothing is left, or nothing below the limit
-high_where_empty : (limit : ℕ) (m : List Entry) → m ≡ [] → IfSome (least m) (λ (e : Entry). limit ≤ e.key)
-high_where_empty limit [] is = tt
-high_where_empty limit (x ∷ xs) is = absurd (cc)
+only_one : (k : Known) → k.number ≡ 1 → IsWhole 1 k
+only_one k one n (low, high) = (0, omega arith, let e : k.number ≡ n = omega arith in e)
 
-high_where_above : (limit : ℕ) (m : List Entry) → IsSomeAnd (least m) (λ (e : Entry). limit ≤ e.key) → IfSome (least m) (λ (e : Entry). limit ≤ e.key)
-high_where_above limit [] is = absurd is
-high_where_above limit (x ∷ xs) is = is
-
-ended_at : (capacity place limit : ℕ) (before now : Known) (reply : Reply) → before.number ≡ 1 → now ≡ with_call before place (RemoveBelow limit) reply → Knows 1 capacity now
-    → left (marks_of now) ≡ left (marks_of before) → IfSome (least (left (marks_of before))) (λ (e : Entry). limit ≤ e.key) → EndsAt capacity limit now
-ended_at capacity place limit before now reply one called knows same high = record {
-  number = ap (λ (k : Known). k.number) called ∙ one;
-  knows = knows;
-  asked = (before.calls, place, reply, ap (λ (k : Known). k.calls) called);
-  at_least = subst (λ (m : List Entry). IfSome (least m) (λ (e : Entry). limit ≤ e.key)) (sym same) high;
-}
-
-pub empty_made : {N P : Type 0} {before now : State N P} (place limit : ℕ) → OneSeatSteps → before.queue.known.number ≡ 1 → limit ≡ limit_of (cost_so_far before.best)
-    → now.queue.known ≡ with_call before.queue.known place (RemoveBelow limit) Empty → Knows 1 before.queue.capacity now.queue.known → now.best ≡ before.best → IsSpent before now
-empty_made {before} {now} place limit steps one is called knows best =
-    let step = steps before.queue.capacity place before.queue.known now.queue.known (RemoveBelow limit) Empty one called knows in record {
-      same = step.1;
-      ended = subst (λ (l : ℕ). EndsAt before.queue.capacity l now.queue.known) is
-          (ended_at before.queue.capacity place limit before.queue.known now.queue.known Empty one called knows step.1 (high_where_empty limit (held before.queue) step.0));
-      best = best;
-    }
-
-pub above_made : {N P : Type 0} {before now : State N P} (place limit : ℕ) → OneSeatSteps → before.queue.known.number ≡ 1 → limit ≡ limit_of (cost_so_far before.best)
-    → now.queue.known ≡ with_call before.queue.known place (RemoveBelow limit) Above → Knows 1 before.queue.capacity now.queue.known → now.best ≡ before.best → IsSpent before now
-above_made {before} {now} place limit steps one is called knows best =
-    let step = steps before.queue.capacity place before.queue.known now.queue.known (RemoveBelow limit) Above one called knows in record {
-      same = step.1;
-      ended = subst (λ (l : ℕ). EndsAt before.queue.capacity l now.queue.known) is
-          (ended_at before.queue.capacity place limit before.queue.known now.queue.known Above one called knows step.1 (high_where_above limit (held before.queue) step.0));
+-- a removal found no entry below the best cost
+pub none_made : {N P : Type 0} {before now : State N P} (place limit : ℕ) (reply : Reply) → OneSeatSteps → before.queue.known.number ≡ 1 → limit ≡ limit_of (cost_so_far before.best) → IsNoneBelow reply
+    → now.queue.known ≡ with_call before.queue.known place (RemoveBelow limit) reply → Knows 1 before.queue.capacity now.queue.known → now.best ≡ before.best → IsSpent before now
+none_made {before} {now} place limit reply steps one is none called knows best = let capacity : ℕ = before.queue.capacity in
+    let step = steps capacity place before.queue.known now.queue.known (RemoveBelow limit) reply one called knows in
+    let ended : EndsAt 1 capacity limit now.queue.known = ends_at 1 capacity limit place before.queue.known now.queue.known reply knows.0 called none (only_one now.queue.known (ap (λ (k : Known). k.number) called ∙ one)) knows.1 in
+    record {
+      same = step.1 ∙ none_taken limit (held before.queue) reply none;
+      high = subst (λ (l : ℕ). IfSome (least (held before.queue)) (λ (e : Entry). l ≤ e.key)) is (none_below 1 capacity limit (held before.queue) reply none step.0);
+      ended = subst (λ (l : ℕ). EndsAt 1 capacity l now.queue.known) is ended;
       best = best;
     }
 

@@ -4,7 +4,7 @@ use Rattle.std.proofs.lemmas.Bool.{cases_Bool}
 use Rattle.std.proofs.lemmas.List.{length-append, length-drop, drop_more}
 use Rattle.bb_problem.specs.Tree.{needed}
 use Rattle.bb_problem.specs.Meaning.{Meaning}
-use Rattle.bb_pool.specs.declared.outcome.Stop.{Stop}
+use Rattle.bb_shared.specs.declared.control.stop.Stop.{Stop}
 use Rattle.bb_pool.specs.Costs.{is_better}
 use Rattle.bb_pool.specs.Children.{StandAt, AreBounds, better_keys, better_names}
 use Rattle.bb_pool.specs.Outcomes.{IsStop}

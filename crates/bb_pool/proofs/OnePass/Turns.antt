@@ -1,14 +1,13 @@
 -- The turns of a search with one caller, by its fields.
 use Rattle.std.proofs.Common.{◌≡◌, ℕ, ◌+◌, ◌<◌, ◌≤◌, true, false, List, [], ◌∷◌, ◌++◌, length, map, set, Some, None, Option, refl, sym, ap, ◌∙◌, subst, inl, inr, arith}
-use Rattle.std.specs.Prelude.{All, IsTrue, IfSome}
+use Rattle.std.specs.Prelude.{All, IsTrue}
 use Rattle.std.proofs.lemmas.Bool.{cases_lt}
 use Rattle.std.proofs.lemmas.List.{length-append, length-set}
-use Rattle.std.proofs.lemmas.List.Elements.{All-nil, All-cons, All-head, All-weaker}
+use Rattle.std.proofs.lemmas.List.Elements.{All-head, All-weaker}
 use Rattle.pq_words.specs.declared.entries.Entry.{Entry}
 use Rattle.pq_words.specs.Limits.{key_limit}
-use Rattle.pq_words.specs.Entries.{raw_of}
 use Rattle.pq_model.specs.declared.passes.Known.{Known}
-use Rattle.pq_model.specs.Multiset.{least, IsRising}
+use Rattle.pq_model.specs.Multiset.{IsRising}
 use Rattle.pq_model.proofs.Multisets.{length-add}
 use Rattle.bb_pool.specs.OneSeat.{held}
 use Rattle.bb_problem.specs.Limits.{size_limit}
@@ -19,8 +18,8 @@ use Rattle.bb_problem.specs.declared.step.Step.TheVariants.{Leaf, Branch}
 use Rattle.bb_problem.specs.Expanding.{StandBelow, IsExpanded, IsInRange}
 use Rattle.std.specs.Prelude.{Vec}
 use Rattle.std.specs.declared.alloc.Global.{Global}
-use Rattle.bb_pool.specs.declared.outcome.Stop.{Stop}
-use Rattle.bb_pool.specs.declared.outcome.Stop.TheVariants.{NodeLimit, Full, NoMemory}
+use Rattle.bb_shared.specs.declared.control.stop.Stop.{Stop}
+use Rattle.bb_shared.specs.declared.control.stop.Stop.TheVariants.{NodeLimit, Full, NoMemory}
 use Rattle.bb_pool.specs.declared.child.Child.{Child}
 use Rattle.bb_pool.specs.declared.found.Found.{Found}
 use Rattle.bb_pool.specs.Limits.{max_nodes}
@@ -30,10 +29,11 @@ use Rattle.bb_pool.specs.Outcomes.{IsStop, IsOutcome, IfNodeLimit, outcome_of}
 use Rattle.bb_pool.specs.Children.{StandAt, better_names}
 use Rattle.bb_pool.specs.Searching.{name_at, StandsFor, IsSearching}
 use Rattle.bb_pool.specs.Underway.{State, cost_so_far, IsFound, IsUnderway, IsPut, IsNotPut, IsStored, IsTaken, IsSpent, IsOver, best_outcome}
-use Rattle.bb_pool.proofs.Costs.{better_below, not_below_itself, below_better, below_limit, from_limit}
+use Rattle.bb_pool.proofs.Costs.{better_below, not_below_itself, below_better, below_limit}
 use Rattle.bb_pool.proofs.Needs.{unavoidable_leaf, open_leaf}
 use Rattle.bb_pool.proofs.Counts.{ahead_dropped, ahead_found}
-use Rattle.bb_pool.proofs.Searches.{node_put, node_closed, key_le, key_at_most_least, node_branched, better_kept, some_best, best_is_least, around_is_made}
+use Rattle.bb_pool.proofs.Ending.{none_better}
+use Rattle.bb_pool.proofs.Searches.{node_put, node_closed, key_at_most_least, node_branched, better_kept, some_best, best_is_least, around_is_made}
 
 -- the same search, by equal parts
 pub same_search : {N P : Type 0} {m : Meaning N P} {capacity : ℕ} {names : List (List ℕ)} {entries entries' : List Entry} {store store' : List (Option N)} {waiting : List (List ℕ)} {best best' : Option ℕ}
@@ -193,21 +193,13 @@ pub each_stored : {N P : Type 0} {m : Meaning N P} {nodes capacity : ℕ} {searc
     → IsUnderway m nodes capacity search waiting → All (IsStored search.store) (held search.queue)
 each_stored {m} {search} u = All-weaker (StandsFor m u.names search.store) (IsStored search.store) (λ e s. (s.node, s.stored)) (held search.queue) u.searching.each
 
--- where the least key is not below a limit, none is
-pub from_least : (cost : ℕ) (m : List Entry) → IsRising m → IfSome (least m) (λ (e : Entry). cost ≤ e.key) → All (λ (e : Entry). cost ≤ e.key) m
-from_least cost [] rising high = All-nil (λ (e : Entry). cost ≤ e.key)
-from_least cost (x ∷ xs) rising high = All-cons (λ (e : Entry). cost ≤ e.key) x xs high
-    (All-weaker (λ (y : Entry). raw_of x ≤ raw_of y) (λ (e : Entry). cost ≤ e.key) (λ y le. let more = key_le x y le in omega arith) xs rising.0)
-
 -- no entry was left below the best cost
 spent_keys : {N P : Type 0} {m : Meaning N P} {nodes capacity : ℕ} {before now : State N P}
     → IsUnderway m nodes capacity before [] → IsSpent before now → IsRising (held before.queue) → All (λ (e : Entry). is_better e.key (cost_so_far before.best) ≡ false) (held before.queue)
-spent_keys {before} {now} u t rising = let ended = t.ended in let best : Option ℕ = cost_so_far before.best in
-    let high = subst (λ (es : List Entry). IfSome (least es) (λ (e : Entry). limit_of best ≤ e.key)) t.same ended.at_least in
-    All-weaker (λ (e : Entry). limit_of best ≤ e.key) (λ (e : Entry). is_better e.key best ≡ false) (λ e le. from_limit e.key best e.key_fits le) (held before.queue) (from_least (limit_of best) (held before.queue) rising high)
+spent_keys {before} u t rising = none_better (cost_so_far before.best) (held before.queue) rising t.high
 
 over_by : {N P : Type 0} {m : Meaning N P} {nodes capacity : ℕ} {before : State N P} (best : Option (Found P)) (known : Known)
-    → IsUnderway m nodes capacity before [] → best ≡ before.best → All (λ (e : Entry). is_better e.key (cost_so_far best) ≡ false) (held before.queue) → EndsAt capacity (limit_of (cost_so_far best)) known → IsOver m nodes capacity best known
+    → IsUnderway m nodes capacity before [] → best ≡ before.best → All (λ (e : Entry). is_better e.key (cost_so_far best) ≡ false) (held before.queue) → EndsAt 1 capacity (limit_of (cost_so_far best)) known → IsOver m nodes capacity best known
 over_by None known u is none ended = some_best u.lawful (same_search refl refl (ap cost_so_far (sym is)) u.searching) none
 over_by {m} {before} (Some found) known u is none ended = let f : IsFound m (Some found) = subst (IsFound m) (sym is) u.found in
     let s = same_search refl refl (ap cost_so_far (sym is)) u.searching in
@@ -223,9 +215,9 @@ over_by {m} {before} (Some found) known u is none ended = let f : IsFound m (Som
 pub over : {N P : Type 0} (m : Meaning N P) (nodes capacity : ℕ) (before now : State N P)
     → IsUnderway m nodes capacity before [] → IsSpent before now → IsRising (held before.queue) → IsOver m nodes capacity now.best now.queue.known
 over m nodes capacity before now u t rising =
-    let ended = subst (λ (c : ℕ). EndsAt c (limit_of (cost_so_far before.best)) now.queue.known) u.capacity_is t.ended in
+    let ended = subst (λ (c : ℕ). EndsAt 1 c (limit_of (cost_so_far before.best)) now.queue.known) u.capacity_is t.ended in
     over_by now.best now.queue.known u t.best (subst (λ b. All (λ (e : Entry). is_better e.key (cost_so_far b) ≡ false) (held before.queue)) (sym t.best) (spent_keys u t rising))
-    (subst (λ b. EndsAt capacity (limit_of (cost_so_far b)) now.queue.known) (sym t.best) ended)
+    (subst (λ b. EndsAt 1 capacity (limit_of (cost_so_far b)) now.queue.known) (sym t.best) ended)
 
 pub over_outcome : {N P : Type 0} (m : Meaning N P) (nodes capacity : ℕ) (best : Option (Found P)) (known : Known) → IsOver m nodes capacity best known → IsOutcome m nodes capacity (best_outcome best)
 over_outcome m nodes capacity None known is = absurd is

@@ -1,20 +1,15 @@
 -- What the outcome says, once all workers are joined: of a stop, and of the best plan.
-use Rattle.std.proofs.Common.{◌≡◌, ℕ, ◌+◌, ◌<◌, ◌≤◌, false, List, [], Option, Some, None, refl, sym, subst, inl, inr, arith}
+use Rattle.std.proofs.Common.{◌≡◌, ℕ, ◌+◌, ◌<◌, ◌≤◌, List, [], Option, Some, None, refl, sym, subst, inl, inr, arith}
 use Rattle.std.specs.Prelude.{Contains, IsSomeAnd}
 use Rattle.std.proofs.lemmas.Bool.{cases_lt}
-use Rattle.std.proofs.lemmas.List.Elements.{All-contains, All-weaker}
-use Rattle.pq_words.specs.declared.entries.Entry.{Entry}
+use Rattle.std.proofs.lemmas.List.Elements.{All-contains}
 use Rattle.pq_model.specs.declared.passes.Call.{Call}
 use Rattle.pq_model.specs.declared.passes.Lane.{Lane}
 use Rattle.pq_model.specs.declared.passes.Known.{Known}
 use Rattle.pq_model.specs.Passes.{call, calls_of, lanes, Knows}
 use Rattle.pq_model.specs.declared.marks.Act.TheVariants.{Insert}
 use Rattle.pq_model.specs.declared.marks.Reply.TheVariants as replies
-use Rattle.pq_model.specs.History.{IsLegal, left}
-use Rattle.pq_model.specs.Laws.{LeftRises}
 use Rattle.pq_model.proofs.Lanes.{mark_of_call}
-use Rattle.pq_api.specs.Plain.{marks_of}
-use Rattle.pq_api.specs.Laws.{OneSeatHasMadeAll}
 use Rattle.bb_problem.specs.Limits.{size_limit}
 use Rattle.bb_problem.specs.Meaning.{Meaning, IsLawful}
 use Rattle.bb_shared.specs.Costs.{IsLower}
@@ -23,21 +18,17 @@ use Rattle.bb_shared.specs.declared.control.stop.Stop.TheVariants as stops
 use Rattle.bb_pool.specs.declared.found.Found.{Found}
 use Rattle.bb_pool.specs.declared.outcome.Outcome.{Outcome}
 use Rattle.bb_pool.specs.declared.outcome.Outcome.TheVariants as outcomes
-use Rattle.bb_pool.specs.Costs.{is_better}
-use Rattle.bb_pool.specs.Endings.{IsFullMark}
+use Rattle.bb_pool.specs.Costs.{limit_of}
+use Rattle.bb_pool.specs.Endings.{IsWhole, EndsAt, IsFullMark}
 use Rattle.bb_pool.specs.Limits.{max_nodes}
 use Rattle.bb_pool.specs.Outcomes.{IsOptimal, IsOutcome, IfNodeLimit}
 use Rattle.bb_pool.specs.Origins.{IsTracedFrom}
 use Rattle.bb_pool.specs.Underway.{cost_so_far, best_outcome}
-use Rattle.bb_pool.specs.LastCalls.{IsWhole, EndsBelow}
 use Rattle.bb_pool.specs.Together.{Doing, AtWork, IsCounted, IsNumbered, IsCause, IsTogether, GoesOn}
 use Rattle.bb_pool.specs.Turns.{EndsIfWhole}
 use Rattle.bb_pool.specs.Runs.{HasRun}
 use Rattle.bb_pool.specs.SearchOutcomes.{IsSearchOutcome, IsSearchStop, IsSolved}
-use Rattle.bb_pool.proofs.Costs.{from_limit}
-use Rattle.bb_pool.proofs.OnePass.Turns.{from_least}
 use Rattle.bb_pool.proofs.Several.Turning.{rooted_more}
-use Rattle.bb_pool.proofs.Several.Ending.{none_left}
 use Rattle.bb_pool.proofs.Several.Growing.{best_is_optimal}
 use Rattle.bb_pool.proofs.Several.Room.{full_needs_room}
 use Rattle.bb_pool.proofs.Several.Traced.{drawn_within_size}
@@ -79,26 +70,16 @@ solved {m} {nodes} {seats} {capacity} {idle} {u} {v} {w} laws none t r on work e
           (rooted_more m u.known w.known u.stored.puts w.stored.puts f.calls f.puts (t.rooted refl none)) last.0 knows store_parts (subst (λ (o : Option ℕ). IsLower w.told.own o) (sym last.1) (λ x better. better));
     }
 
-pub best_answer : {N L : Type 0} (m : Meaning N L) (nodes seats capacity : ℕ) (k : Known) (found : Option (Found L)) → EndsBelow seats capacity k (cost_so_far found) → IsSomeAnd found (λ f. IsOptimal m.is_feasible m.cost_of f.plan f.cost) → IsSearchOutcome m nodes capacity seats (best_outcome found)
+pub best_answer : {N L : Type 0} (m : Meaning N L) (nodes seats capacity : ℕ) (k : Known) (found : Option (Found L)) → EndsAt seats capacity (limit_of (cost_so_far found)) k → IsSomeAnd found (λ f. IsOptimal m.is_feasible m.cost_of f.plan f.cost) → IsSearchOutcome m nodes capacity seats (best_outcome found)
 best_answer m nodes seats capacity k None ends is = absurd is
-best_answer m nodes seats capacity k (Some f) ends is = (is, (ends.history, ends.witnessed.legal, none_left seats capacity k (Some f.cost) ends))
+best_answer m nodes seats capacity k (Some f) ends is = (is, k, ends)
 
 -- what a search with one caller says, said as that of several
-pub one_outcome : {N L : Type 0} (m : Meaning N L) (nodes capacity seats : ℕ) (out : Outcome L) → seats ≡ 1 → OneSeatHasMadeAll → LeftRises → IfNodeLimit out (λ asked limit. limit < m.tree_size) → IsOutcome m nodes capacity out → IsSearchOutcome m nodes capacity seats out
-one_outcome m nodes capacity seats (outcomes.Best plan cost) one alone rises low (k, is) = let ended = is.ended in let history = ended.knows.0 in let w = ended.knows.1 in
-    let whole : history ≡ marks_of k = alone capacity k history w.legal w.holds ended.number in
-    let legal : IsLegal 1 capacity (marks_of k) = subst (IsLegal 1 capacity) whole w.legal in
-    let high = from_least cost (left (marks_of k)) (rises (marks_of k)) ended.at_least in (
-      is.optimal,
-      (
-        marks_of k,
-        subst (λ (n : ℕ). IsLegal n capacity (marks_of k)) (sym one) legal,
-        All-weaker (λ (e : Entry). cost ≤ e.key) (λ (e : Entry). is_better e.key (Some cost) ≡ false) (λ e le. from_limit e.key (Some cost) e.key_fits le) (left (marks_of k)) high,
-      ),
-    )
-one_outcome m nodes capacity seats (outcomes.NodeLimit asked limit) one alone rises low is = (is.limit_is, is.over, low)
-one_outcome m nodes capacity seats (outcomes.Full place) one alone rises low is = ((let below = is.below_limit in omega arith), subst (λ (n : ℕ). IsFullMark n capacity place) (sym one) is.told)
-one_outcome m nodes capacity seats outcomes.NoMemory one alone rises low is = tt
+pub one_outcome : {N L : Type 0} (m : Meaning N L) (nodes capacity seats : ℕ) (out : Outcome L) → seats ≡ 1 → IfNodeLimit out (λ asked limit. limit < m.tree_size) → IsOutcome m nodes capacity out → IsSearchOutcome m nodes capacity seats out
+one_outcome m nodes capacity seats (outcomes.Best plan cost) one low (k, is) = (is.optimal, k, subst (λ (n : ℕ). EndsAt n capacity cost k) (sym one) is.ended)
+one_outcome m nodes capacity seats (outcomes.NodeLimit asked limit) one low is = (is.limit_is, is.over, low)
+one_outcome m nodes capacity seats (outcomes.Full place) one low is = ((let below = is.below_limit in omega arith), subst (λ (n : ℕ). IsFullMark n capacity place) (sym one) is.told)
+one_outcome m nodes capacity seats outcomes.NoMemory one low is = tt
 
 pub size_outcome : {N L : Type 0} (m : Meaning N L) (nodes capacity seats : ℕ) (out : Outcome L) → IsSearchOutcome m nodes capacity seats out → IfNodeLimit out (λ asked limit. limit < m.tree_size)
 size_outcome m nodes capacity seats (outcomes.Best plan cost) is = tt

@@ -11,15 +11,15 @@ use Rattle.pq_model.specs.History.{left}
 use Rattle.bb_problem.specs.Meaning.{Meaning, IsLawful}
 use Rattle.bb_shared.specs.declared.store.stored.Numbered.{Numbered}
 use Rattle.bb_shared.specs.Stores.{AreMatched}
-use Rattle.bb_pool.specs.Costs.{is_better}
-use Rattle.bb_pool.specs.LastCalls.{EndsBelow}
+use Rattle.bb_pool.specs.Costs.{is_better, limit_of}
+use Rattle.bb_pool.specs.Endings.{EndsAt}
 use Rattle.bb_pool.specs.Working.{IsInserted, IsPassedOn, IsSearched, IsRooted}
 use Rattle.bb_pool.proofs.Costs.{better_below}
 use Rattle.bb_pool.proofs.Several.Marks.{inserted_goes, mark_of, made_of}
-use Rattle.bb_pool.proofs.Several.Ending.{all_own, none_left}
+use Rattle.bb_pool.proofs.Ending.{all_own, none_left}
 
 module _ {N L : Type 0} (m : Meaning N L) (seats capacity : ℕ) (k : Known) (puts takes : List (Numbered N)) (best : Option ℕ)
-    (bounded : (name : List ℕ) (v : ℕ) → m.reaches name v → m.tree.bound name ≤ v) (searched : IsSearched m k puts takes best) (matched : AreMatched puts takes) (ends : EndsBelow seats capacity k best) where
+    (bounded : (name : List ℕ) (v : ℕ) → m.reaches name v → m.tree.bound name ≤ v) (searched : IsSearched m k puts takes best) (matched : AreMatched puts takes) (ends : EndsAt seats capacity (limit_of best) k) where
   -- a node that was put and inserted, and reaches a better cost, passes it on
   goes_on : (name : List ℕ) (v : ℕ) (p : Numbered N) → Contains puts p → m.stands p.node name → m.reaches name v → IsTrue (is_better v best) → IsInserted k p.number (m.tree.bound name) → IsPassedOn m k puts name v
   goes_on name v p put st r better ins = let w = ends.witnessed in
@@ -39,13 +39,13 @@ module _ {N L : Type 0} (m : Meaning N L) (seats capacity : ℕ) (k : Known) (pu
       let longer = next.longer in none_better fuel next.next v next.child (omega arith) next.put next.standing next.reached better next.inserted
 
 pub best_is_least : {N L : Type 0} (m : Meaning N L) (seats capacity : ℕ) (k : Known) (puts takes : List (Numbered N)) (best : Option ℕ)
-    → IsLawful m → IsSearched m k puts takes best → AreMatched puts takes → IsRooted m k puts → EndsBelow seats capacity k best
+    → IsLawful m → IsSearched m k puts takes best → AreMatched puts takes → IsRooted m k puts → EndsAt seats capacity (limit_of best) k
     → IsSomeAnd best (λ b. (plan : L) → m.is_feasible plan → b ≤ m.cost_of plan)
 best_is_least {N} {L} m seats capacity k puts takes best laws searched matched rooted ends = found best searched ends
   where
-    none : (b : Option ℕ) (s : IsSearched m k puts takes b) (e : EndsBelow seats capacity k b) (v : ℕ) → m.reaches [] v → IsTrue (is_better v b) → ⊥
+    none : (b : Option ℕ) (s : IsSearched m k puts takes b) (e : EndsAt seats capacity (limit_of b) k) (v : ℕ) → m.reaches [] v → IsTrue (is_better v b) → ⊥
     none b s e v r better = none_better m seats capacity k puts takes b laws.bounded s matched e m.tree.height [] v rooted.root (omega arith) rooted.put rooted.standing r better rooted.inserted
 
-    found : (b : Option ℕ) → IsSearched m k puts takes b → EndsBelow seats capacity k b → IsSomeAnd b (λ c. (plan : L) → m.is_feasible plan → c ≤ m.cost_of plan)
+    found : (b : Option ℕ) → IsSearched m k puts takes b → EndsAt seats capacity (limit_of b) k → IsSomeAnd b (λ c. (plan : L) → m.is_feasible plan → c ≤ m.cost_of plan)
     found None s e = none None s e (m.cost_of laws.attained.0) (laws.reached laws.attained.0 laws.attained.1) refl
     found (Some c) s e = λ plan is. elim (cases_lt (m.cost_of plan) c) [ inl lt ↦ absurd (none (Some c) s e (m.cost_of plan) (laws.reached plan is) (lt-ltb (m.cost_of plan) c lt)) | inr le ↦ le ]

@@ -12,7 +12,8 @@ use Rattle.bb_shared.specs.Controls.{cut_of}
 use Rattle.bb_pool.specs.declared.found.Found.{Found}
 use Rattle.bb_pool.specs.Outcomes.{IsOptimal}
 use Rattle.bb_pool.specs.Underway.{cost_so_far}
-use Rattle.bb_pool.specs.LastCalls.{EndsBelow}
+use Rattle.bb_pool.specs.Costs.{limit_of}
+use Rattle.bb_pool.specs.Endings.{EndsAt}
 use Rattle.bb_pool.specs.Working.{IsGrown, IsOfLeaf, IsFoundBy, IsWorking, IsRooted}
 use Rattle.bb_pool.proofs.Several.Lesser.{lesser_both}
 use Rattle.bb_pool.proofs.Several.Turning.{lower_cut}
@@ -30,7 +31,7 @@ module _ {N L : Type 0} (m : Meaning N L) (puts takes : List (Numbered N)) (matc
   plan_is_feasible plan is = let at = put_stands (is.from.number + 1) is.from (omega arith) (matched.from_puts is.from is.taken) in is.follows at.0 at.1
 
 pub best_is_optimal : {N L : Type 0} (m : Meaning N L) (seats capacity nodes : ℕ) (k : Known) (s : Stored N) (c : Told) (found : Option (Found L))
-    → IsLawful m → IsWorking m k s c found → IsRooted m k s.puts → EndsBelow seats capacity k (cost_so_far found)
+    → IsLawful m → IsWorking m k s c found → IsRooted m k s.puts → EndsAt seats capacity (limit_of (cost_so_far found)) k
     → KnowsStore nodes s → s.parts ≡ s.seats → IsLower c.own c.read → IsSomeAnd found (λ f. IsOptimal m.is_feasible m.cost_of f.plan f.cost)
 best_is_optimal {N} {L} m seats capacity nodes k s c found laws w rooted ends store all_seats control =
     let low : IsLower (cost_so_far found) (cut_of c) = subst (λ (o : Option ℕ). IsLower o (cut_of c)) w.told (lesser_both c.own c.own c.read (λ v b. b) control) in

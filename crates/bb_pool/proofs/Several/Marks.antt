@@ -1,5 +1,5 @@
 -- An entry that is in a multiset, or is inserted later, is removed later or left. And what a pass's calls have of it.
-use Rattle.std.proofs.Common.{◌≡◌, ℕ, zero, suc, List, [], ◌∷◌, map, Some, refl, sym, ap, ◌∙◌, subst, inl, inr, arith}
+use Rattle.std.proofs.Common.{◌≡◌, ℕ, suc, List, [], ◌∷◌, Some, refl, sym, ap, ◌∙◌, subst, inl, inr}
 use Rattle.std.specs.Prelude.{All, Contains, ◌⊎◌, slice_get}
 use Rattle.std.proofs.lemmas.List.Elements.{All-contains}
 use Rattle.pq_words.specs.declared.entries.Entry.{Entry}
@@ -17,6 +17,7 @@ use Rattle.pq_model.specs.Passes.{call, calls_of, lanes, numbers, HoldsCalls}
 use Rattle.pq_model.proofs.Multisets.{with_least}
 use Rattle.pq_model.proofs.Lanes.{mark_of_call, call_of_mark}
 use Rattle.bb_pool.specs.Working.{HasMade}
+use Rattle.bb_pool.proofs.Ending.{lane_at}
 use Rattle.bb_pool.proofs.Members.{none_in_empty, Contains-here, Contains-there, Contains-cases, Contains-added, Contains-add, Contains-got}
 
 -- such a mark stands in the history
@@ -82,11 +83,6 @@ pub mark_of : (k : Known) (history : List Mark) (act : Act) (reply : Reply) → 
 mark_of k history act reply holds (l, has, c, there, a, r) =
     let at : slice_get history c.place ≡ Some (mark l.number c.act c.reply) = mark_of_call l.number history c (subst (λ (cs : List Call). Contains cs c) (sym (calls_in k history l holds has)) there) in
     (mark l.number c.act c.reply, Contains-got history c.place (mark l.number c.act c.reply) at, a, r)
-
-pub lane_at : (ls : List Lane) (n : ℕ) → Contains (map (λ (l : Lane). l.number) ls) n → (l : Lane) × Contains ls l × (l.number ≡ n)
-lane_at [] n (i, lt, is) = absurd (omega arith)
-lane_at (l ∷ ls) n (zero, lt, is) = (l, (0, omega arith, refl), is)
-lane_at (l ∷ ls) n (suc i, lt, is) = let rest = lane_at ls n (i, omega arith, is) in let at = rest.1 in (rest.0, (suc at.0, let within = at.1 in omega arith, at.2), rest.2)
 
 pub place_of : (history : List Mark) (x : Mark) → Contains history x → (i : ℕ) × (slice_get history i ≡ Some x)
 place_of [] x there = absurd (none_in_empty x there)

@@ -19,12 +19,12 @@ use Rattle.pq_model.proofs.Choices.{by_test}
 use Rattle.pq_model.proofs.Multisets.{length-add}
 use Rattle.pq_model.proofs.Replays.{step_at, IsLegalFrom-take}
 use Rattle.bb_problem.specs.Tree.{total}
-use Rattle.bb_pool.specs.LastCalls.{IsWhole}
+use Rattle.bb_pool.specs.Endings.{IsWhole}
 use Rattle.bb_pool.specs.Working.{HasMade}
 use Rattle.bb_pool.specs.Room.{done, inserts_of, all_inserts}
 use Rattle.bb_pool.proofs.Members.{none_in_empty, Contains-cases}
 use Rattle.bb_pool.proofs.Several.Marks.{mark_of, place_of}
-use Rattle.bb_pool.proofs.Several.Ending.{all_own}
+use Rattle.bb_pool.proofs.Ending.{all_own}
 
 abbrev in_calls : List Call → ℕ
 in_calls cs = total (λ (c : Call). done c.act c.reply) cs

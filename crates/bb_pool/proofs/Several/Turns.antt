@@ -22,32 +22,24 @@ use Rattle.bb_pool.specs.declared.child.Child.{Child}
 use Rattle.bb_pool.specs.Costs.{is_better, limit_of}
 use Rattle.bb_pool.specs.Children.{AreBounds, better_keys}
 use Rattle.bb_pool.specs.Underway.{cost_so_far}
-use Rattle.bb_pool.specs.LastCalls.{IsWhole, IsNoneBelow, EndsBelow}
+use Rattle.bb_pool.specs.Endings.{IsWhole, IsNoneBelow, EndsAt}
 use Rattle.bb_pool.specs.Working.{Waiting, kept_of, IsHolding, IsInTurn}
 use Rattle.bb_pool.specs.Together.{Doing, AtWork, GoesOn, IsCause}
 use Rattle.bb_pool.specs.Turns.{IsHalt, HoldsNode, HasExpanded, HasRead, EndsIfWhole, WaitsFrom, AreFree, IsPut}
 use Rattle.bb_pool.proofs.Members.{none_in_empty, Contains-here, Contains-cases, Contains-right, Contains-either}
 use Rattle.bb_pool.proofs.Bounds.{bounds_length}
+use Rattle.bb_pool.proofs.Ending.{ends_at}
 use Rattle.bb_pool.proofs.Several.Expanded.{waiting, kept_by, kept_length}
 use Rattle.bb_pool.proofs.Several.Working.{read_low, read_own, cut_lowered, held_lowered, call_more, node_taken, node_dropped, branch_waits, drew, put_first, turn_ended}
 use Rattle.bb_pool.proofs.Several.Counting.{reached, same_read, goes_told, goes_drawn, goes_idle, goes_taken, goes_further}
 
 -- The call asked for an entry below the best cost of all, where all are joined.
 pub ends_here : (seats capacity : ℕ) (before k : Known) (place limit : ℕ) (reply : Reply) (c d : Told) (best r : Option ℕ) → k ≡ with_call before place (RemoveBelow limit) reply → IsNoneBelow reply → limit ≡ limit_of r → IsRead c r d → c.own ≡ best
-    → Knows seats capacity k → d.parts ≡ d.seats → IsWhole seats k → EndsBelow seats capacity k best × (d.read ≡ d.own)
+    → Knows seats capacity k → d.parts ≡ d.seats → IsWhole seats k → EndsAt seats capacity (limit_of best) k × (d.read ≡ d.own)
 ends_here seats capacity before k place limit reply c d best r is none asked reading told knows all whole =
     let parts : d.parts ≡ c.parts = ap (λ (z : Told). z.parts) reading.is in let seats_are : d.seats ≡ c.seats = ap (λ (z : Told). z.seats) reading.is in
     let whole_read : r ≡ c.own = reading.whole (sym parts ∙ (all ∙ seats_are)) in let same : r ≡ best = whole_read ∙ told in (
-      record {
-        before = before;
-        place = place;
-        reply = reply;
-        is = is ∙ ap (λ (n : ℕ). with_call before place (RemoveBelow n) reply) (asked ∙ ap limit_of same);
-        none = none;
-        whole = whole;
-        history = knows.0;
-        witnessed = knows.1;
-      },
+      ends_at seats capacity (limit_of best) place before k reply knows.0 (is ∙ ap (λ (n : ℕ). with_call before place (RemoveBelow n) reply) (asked ∙ ap limit_of same)) none whole knows.1,
       ap (λ (z : Told). z.read) reading.is ∙ (whole_read ∙ sym (ap (λ (z : Told). z.own) reading.is)),
     )
 

@@ -1,19 +1,18 @@
 //! The workers joined into one, which goes on alone until nothing is left below its best cost.
 
-ghost use Rattle.std.specs.Prelude.{◌≡◌, ℕ, ◌+◌, ◌≤◌, [], length, IfOk, IfErr, IsSome};
+ghost use Rattle.std.specs.Prelude.{◌≡◌, ℕ, ◌+◌, ◌≤◌, [], length, IfOk, IfErr};
 ghost use Rattle.pq_model.specs.Passes.{IsApart};
 ghost use Rattle.pq_api.specs.Answers.{EachAt};
 ghost use Rattle.bb_pool.specs.Limits.{idle_calls};
 ghost use Rattle.bb_pool.specs.Working.{lesser_found};
 ghost use Rattle.bb_pool.specs.Together.{doing, IsOneOf, IsTogether};
-ghost use Rattle.bb_pool.specs.Runs.{IsJoinedOf};
-ghost use Rattle.bb_pool.specs.SearchOutcomes.{IsSearchOutcome, IsSolved, answer_of, IsSearchStop};
-ghost use Rattle.bb_pool.specs.Underway.{best_outcome};
+ghost use Rattle.bb_pool.specs.Runs.{HasEnded, IsJoinedOf};
+ghost use Rattle.bb_pool.specs.SearchOutcomes.{IsSearchOutcome, IsSolved, IsSearchStop};
 
 use super::shared::{Shared, Worker};
 use super::turn::{Turn, take_turn};
 use crate::found::Found;
-use crate::outcome::Outcome;
+use crate::outcome::{Outcome, of_best, of_stop};
 use bb_problem::Problem;
 use bb_shared::Stop;
 use pq_api::{BoundedQueue, Gate};
@@ -27,9 +26,8 @@ pub(crate) fn join_all<Q: BoundedQueue, P: Problem>(
     workers: Vec<Worker<Q::Pass, P::Node, P::Plan>>,
 ) -> Worker<Q::Pass, P::Node, P::Plan>
     requires some { 1 ≤ length workers.items }
-    requires ended { EachAt (λ k w. IsOneOf Q.belongs shared.now w
-        × IsTogether (P.meaning problem.now) shared.now.nodes (Q.seats_of shared.now.queue)
-        (Q.capacity_of shared.now.queue) (idle_calls + 1) (k + 1) (k + 1) (doing Q.known w)) workers.items }
+    requires ended { EachAt (λ k w.
+        HasEnded Q.belongs Q.known Q.seats_of Q.capacity_of (P.meaning problem.now) shared.now (k + 1) w) workers.items }
     ensures own { IsOneOf Q.belongs shared.now result }
     ensures together { IsTogether (P.meaning problem.now) shared.now.nodes (Q.seats_of shared.now.queue)
         (Q.capacity_of shared.now.queue) (idle_calls + 1) 1 (length workers.items) (doing Q.known result) }
@@ -103,11 +101,11 @@ pub(crate) fn finish<R: Wait + Sync, Q: BoundedQueue, P: Problem, G: Gate>(
 {
     let mut worker = worker;
     if let Some(stop) = shared.control.stopped(&mut worker.control) {
-        return answer(stop, shared.nodes);
+        return of_stop(stop, shared.nodes);
     }
     match go_alone(rt, alloc, problem, shared, gate, &mut worker) {
-        Ok(()) => best(worker.found),
-        Err(stop) => answer(stop, shared.nodes),
+        Ok(()) => of_best(worker.found),
+        Err(stop) => of_stop(stop, shared.nodes),
     }
 }
 
@@ -137,26 +135,4 @@ fn go_alone<R: Wait + Sync, Q: BoundedQueue, P: Problem, G: Gate>(
         }
     }
     unreachable!()
-}
-
-// The outcome of the best plan.
-fn best<L: Drop>(found: Option<Found<L>>) -> Outcome<L>
-    requires { IsSome found }
-    ensures { result ≡ best_outcome found }
-{
-    let Some(Found { plan, cost }) = found else {
-        unreachable!()
-    };
-    Outcome::Best { plan, cost }
-}
-
-// The outcome of a search that was stopped, under this node limit.
-fn answer<L>(stop: Stop, limit: u32) -> Outcome<L>
-    ensures { result ≡ answer_of stop limit }
-{
-    match stop {
-        Stop::NodeLimit { asked } => Outcome::NodeLimit { asked, limit },
-        Stop::Full { place } => Outcome::Full { place },
-        Stop::NoMemory => Outcome::NoMemory,
-    }
 }

@@ -1,22 +1,23 @@
 //! A worker from its first turn to its last, and all workers on threads.
 
-ghost use Rattle.std.specs.Prelude.{◌≡◌, ℕ, ◌+◌, ◌<◌, ◌≤◌, [], length, Option, IfOk, IfErr};
+ghost use Rattle.std.specs.Prelude.{◌≡◌, ℕ, ◌+◌, ◌<◌, ◌≤◌, [], length, IfOk, IfErr};
 ghost use Rattle.pq_model.specs.Passes.{Knows};
 ghost use Rattle.pq_api.specs.Answers.{EachAt};
 ghost use Rattle.bb_pool.specs.Limits.{idle_calls};
-ghost use Rattle.bb_pool.specs.Origins.{IsTraced};
+ghost use Rattle.bb_pool.specs.Origins.{StaysTraced};
 ghost use Rattle.bb_pool.specs.Together.{doing, IsOneOf, AtWork, IsCounted, IsTogether};
-ghost use Rattle.bb_pool.specs.Runs.{HasRun, HasStopped, IsStill};
+ghost use Rattle.bb_pool.specs.Runs.{HasRun, HasStopped, IsReady, HasEnded, IsStill};
 
 use super::shared::{Shared, Worker};
 use super::turn::{Turn, take_turn};
 use crate::limits::IDLE_CALLS;
 use bb_problem::Problem;
 use bb_shared::{Control, ControlSeat, Stop};
+use crossbeam_utils::Backoff;
 use pq_api::{BoundedQueue, Gate};
 use std::alloc::Global;
 use std::sync::Wait;
-use std::thread::{Threads, for_each_mut, yield_now};
+use std::thread::{Threads, for_each_mut};
 
 /// Runs all workers, each on a thread of its own where one can be made.
 pub(crate) fn run_all<R: Threads + Wait + Sync, Q: BoundedQueue, P: Problem, G: Gate>(
@@ -29,23 +30,19 @@ pub(crate) fn run_all<R: Threads + Wait + Sync, Q: BoundedQueue, P: Problem, G: 
 )
     requires valid { P.is_problem problem.now }
     requires some { 1 ≤ length workers.old }
-    requires ready { EachAt (λ k w. IsOneOf Q.belongs shared.now w × (w.control.kept.stops ≡ [])
-        × IsTogether (P.meaning problem.now) shared.now.nodes (Q.seats_of shared.now.queue)
-        (Q.capacity_of shared.now.queue) idle_calls (k + 1) (k + 1) (doing Q.known w)) workers.old }
+    requires ready { EachAt (λ k w.
+        IsReady Q.belongs Q.known Q.seats_of Q.capacity_of (P.meaning problem.now) shared.now (k + 1) w) workers.old }
     ensures count { length workers.new ≡ length workers.old }
-    ensures ended { EachAt (λ k w. IsOneOf Q.belongs shared.now w
-        × IsTogether (P.meaning problem.now) shared.now.nodes (Q.seats_of shared.now.queue)
-        (Q.capacity_of shared.now.queue) (idle_calls + 1) (k + 1) (k + 1) (doing Q.known w)) workers.new }
+    ensures ended { EachAt (λ k w.
+        HasEnded Q.belongs Q.known Q.seats_of Q.capacity_of (P.meaning problem.now) shared.now (k + 1) w) workers.new }
 {
     let threads = workers.len();
     let work = |k: usize, worker: &mut Worker<Q::Pass, P::Node, P::Plan>|
         requires valid { P.is_problem problem.now }
-        requires ready { IsOneOf Q.belongs shared.now worker.now × (worker.now.control.kept.stops ≡ [])
-            × IsTogether (P.meaning problem.now) shared.now.nodes (Q.seats_of shared.now.queue)
-            (Q.capacity_of shared.now.queue) idle_calls (k + 1) (k + 1) (doing Q.known worker.now) }
-        ensures ended { IsOneOf Q.belongs shared.entry.now worker.exit.now
-            × IsTogether (P.meaning problem.entry.now) shared.entry.now.nodes (Q.seats_of shared.entry.now.queue)
-            (Q.capacity_of shared.entry.now.queue) (idle_calls + 1) (k + 1) (k + 1) (doing Q.known worker.exit.now) }
+        requires ready { IsReady Q.belongs Q.known Q.seats_of Q.capacity_of (P.meaning problem.now) shared.now (k + 1)
+            worker.now }
+        ensures ended { HasEnded Q.belongs Q.known Q.seats_of Q.capacity_of (P.meaning problem.entry.now)
+            shared.entry.now (k + 1) worker.exit.now }
     { run(rt, alloc, problem, shared, gate, worker) };
     for_each_mut(rt, workers, threads, &work);
 }
@@ -79,7 +76,8 @@ fn run<R: Wait + Sync, Q: BoundedQueue, P: Problem, G: Gate>(
     }
 }
 
-// Takes turns, until none is open and none is left, or a stop is set.
+// Takes turns, until none is open and none is left, or a stop is set. Between two turns that found nothing it pauses,
+// longer each time, so that it does not take the queue's locks from those that work.
 fn go_on<R: Wait + Sync, Q: BoundedQueue, P: Problem, G: Gate>(
     rt: &R,
     alloc: Global,
@@ -98,19 +96,22 @@ fn go_on<R: Wait + Sync, Q: BoundedQueue, P: Problem, G: Gate>(
     ensures ended { IfOk result (λ _. HasRun (P.meaning problem.now) shared.now.nodes (idle_calls + 1)
         (doing Q.known worker.old) (doing Q.known worker.new)) }
     ensures stopped { IfErr result (HasStopped shared.now.nodes (doing Q.known worker.old) (doing Q.known worker.new)) }
-    ensures traced { (root : Option ℕ) → IsTraced (P.meaning problem.now) root [] worker.old.seat.kept
-        → IsTraced (P.meaning problem.now) root [] worker.new.seat.kept }
+    ensures traced { StaysTraced (P.meaning problem.now) worker.old.seat.kept worker.new.seat.kept }
 {
+    let backoff = Backoff::new();
     let mut was_idle = false;
     for _ in rt.forever() {
         match take_turn(rt, alloc, problem, shared, gate, worker)? {
-            Turn::Worked => was_idle = false,
+            Turn::Worked => {
+                was_idle = false;
+                backoff.reset();
+            }
             Turn::Idle => {
                 let over = is_over(&shared.control, &mut worker.control, &mut was_idle);
                 if over || worker.made >= IDLE_CALLS {
                     return Ok(());
                 }
-                yield_now();
+                backoff.snooze();
             }
         }
     }

@@ -3,9 +3,10 @@
 ghost use Rattle.std.specs.Prelude.{◌≡◌, ◌+◌, ◌≤◌, ◌<◌, [], length};
 ghost use Rattle.pq_model.specs.Passes.{fresh};
 ghost use Rattle.pq_api.specs.Answers.{EachAt};
-ghost use Rattle.bb_pool.specs.Limits.{max_nodes, idle_calls};
+ghost use Rattle.bb_pool.specs.Limits.{max_nodes};
 ghost use Rattle.bb_pool.specs.Outcomes.{IsOutcome, IfNodeLimit};
-ghost use Rattle.bb_pool.specs.Together.{doing, IsOneOf, IsNew, IsTogether};
+ghost use Rattle.bb_pool.specs.Together.{doing, IsOneOf, IsNew};
+ghost use Rattle.bb_pool.specs.Runs.{HasEnded};
 ghost use Rattle.bb_pool.specs.SearchOutcomes.{IsSearchOutcome};
 
 use super::ending::{finish, join_all};
@@ -15,8 +16,7 @@ use super::shared::{Shared, Worker};
 use crate::alone::search_alone;
 use crate::outcome::Outcome;
 use bb_problem::Problem;
-use pq_api::{BoundedQueue, Gate, one_seat_has_made_all};
-use pq_model::left_rises;
+use pq_api::{BoundedQueue, Gate};
 use std::alloc::Global;
 use std::sync::Wait;
 use std::thread::Threads;
@@ -34,7 +34,9 @@ use std::thread::Threads;
 /// such entry ends where a stop is set, or where no turn was open now and after its turn before, or once its pass has
 /// made 2^24 calls. Then all are joined into one, which goes on alone until no such entry is left.
 ///
-/// `Best` gives a feasible plan with its cost, and no feasible plan costs less. `NodeLimit` comes where a branch's
+/// `Best` gives a feasible plan with its cost, and no feasible plan costs less. There are calls of all passes whose
+/// legal history ends with a removal below this cost that found no such entry, and it leaves none with a lower key; that
+/// they are the calls of this search is said of the functions under it, which hold the passes. `NodeLimit` comes where a branch's
 /// children would pass the limit, before one of them is put; the limit is then below the size of the tree. `Full`
 /// comes where an insert was answered so, at its place; the capacity is then below `nodes` and the number of passes
 /// together. `NoMemory` comes where there was none for the root, the store, the workers, a node's expansion or the
@@ -46,9 +48,12 @@ use std::thread::Threads;
 /// The workers run on threads, one of them on the caller's; where a thread cannot be had, another runs its worker
 /// too. A node costs one removal, one insert, one addition for all numbers of its children, two exchanges on its
 /// slot, a bound and at most one expansion. The store, the control words and the workers take their memory before the
-/// root is inserted, in time linear in `nodes`; after that only `expand` takes memory, and each worker for the bounds
-/// of one branch. The gate is told each node that was taken, at `Point::WorkerNode`. Queue and gate may wait, and so
-/// may this call: what is promised holds if it returns.
+/// root is inserted, in time linear in `nodes`: eight bytes and a slot for each number up to `nodes`, where a slot
+/// holds a node and not a box of it, and as much again until the store is made. That is about a tenth of a second for
+/// `MAX_NODES` nodes of 40 bytes. After that only `expand` takes memory, and each worker for the bounds of one branch.
+/// A worker that finds no entry pauses before it looks again, longer each time, until it gives way to other threads.
+/// The gate is told each node that was taken, at `Point::WorkerNode`. Queue and gate may wait, and so may this call:
+/// what is promised holds if it returns.
 ///
 /// After A. H. Land and A. G. Doig, "An Automatic Method of Solving Discrete Programming Problems" (Econometrica,
 /// 1960), and for several workers on one queue B. Gendron and T. G. Crainic, "Parallel Branch-and-Bound Algorithms:
@@ -73,8 +78,6 @@ pub fn search<R: Threads + Wait + Sync, Q: BoundedQueue, P: Problem, G: Gate>(
     if passes.len() == 1 {
         let mut passes = passes;
         let pass = passes.remove(0);
-        one_seat_has_made_all();
-        left_rises();
         return search_alone(rt, alloc, problem, queue, pass, nodes, gate);
     }
     search_together(rt, alloc, problem, queue, passes, nodes, gate)
@@ -153,9 +156,8 @@ fn run_from_root<R: Threads + Wait + Sync, Q: BoundedQueue, P: Problem, G: Gate>
         × IsNew (Q.seats_of shared.now.queue) (k + 1) (doing Q.known w)) workers.old }
     requires root { (P.meaning problem.now).stands root [] }
     ensures count { length workers.new ≡ length workers.old }
-    ensures ended { EachAt (λ k w. IsOneOf Q.belongs shared.now w
-        × IsTogether (P.meaning problem.now) shared.now.nodes (Q.seats_of shared.now.queue)
-        (Q.capacity_of shared.now.queue) (idle_calls + 1) (k + 1) (k + 1) (doing Q.known w)) workers.new }
+    ensures ended { EachAt (λ k w.
+        HasEnded Q.belongs Q.known Q.seats_of Q.capacity_of (P.meaning problem.now) shared.now (k + 1) w) workers.new }
 {
     if !begin(rt, problem, shared, &mut workers[0], root) {
         return;

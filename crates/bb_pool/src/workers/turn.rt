@@ -14,10 +14,10 @@ ghost use Rattle.bb_shared.specs.Controls.{IsTellable};
 ghost use Rattle.bb_pool.specs.Costs.{limit_of};
 ghost use Rattle.bb_pool.specs.Children.{AreBounds};
 ghost use Rattle.bb_pool.specs.Working.{kept_of};
-ghost use Rattle.bb_pool.specs.Origins.{Origin, IsTraced, HasOrigin, AreLeftOf};
+ghost use Rattle.bb_pool.specs.Origins.{Origin, IsTraced, StaysTraced, HasOrigin, AreLeftOf};
 ghost use Rattle.bb_pool.specs.Together.{doing, IsOneOf, AtWork, CanGoOn, GoesOn};
 ghost use Rattle.bb_pool.specs.Turns.{HoldsNode, HasExpanded, HasRead, WaitsFrom, AreFree, IsPut, EndsIfWhole};
-ghost use Rattle.bb_pool.specs.Turns.{IsTurn, IsHalt};
+ghost use Rattle.bb_pool.specs.Turns.{HasWorked, IsTurn, IsHalt};
 
 use super::shared::{Shared, Worker};
 use crate::child::Child;
@@ -58,8 +58,7 @@ pub(crate) fn take_turn<R: Wait + Sync, Q: BoundedQueue, P: Problem, G: Gate>(
     ensures turn { IfOk result (IsTurn (P.meaning problem.now) shared.now.nodes (Q.seats_of shared.now.queue)
         (Q.capacity_of shared.now.queue) (doing Q.known worker.old) (doing Q.known worker.new)) }
     ensures halt { IfErr result (IsHalt shared.now.nodes (doing Q.known worker.old) (doing Q.known worker.new)) }
-    ensures traced { (root : Option ℕ) → IsTraced (P.meaning problem.now) root [] worker.old.seat.kept
-        → IsTraced (P.meaning problem.now) root [] worker.new.seat.kept }
+    ensures traced { StaysTraced (P.meaning problem.now) worker.old.seat.kept worker.new.seat.kept }
 {
     shared.control.opened(&mut worker.control, 1);
     match take_node(rt, problem, shared, gate, worker) {
@@ -140,8 +139,8 @@ fn expand_node<R: Wait + Sync, Q: BoundedQueue, P: Problem>(
     requires knows { Knows (Q.seats_of shared.now.queue) (Q.capacity_of shared.now.queue) (Q.known worker.old.pass) }
     ensures own { IsOneOf Q.belongs shared.now worker.new }
     ensures knows { Knows (Q.seats_of shared.now.queue) (Q.capacity_of shared.now.queue) (Q.known worker.new.pass) }
-    ensures worked { IfOk result (λ _. GoesOn shared.now.nodes 0 (doing Q.known worker.old) (doing Q.known worker.new)
-        × AtWork (P.meaning problem.now) (doing Q.known worker.new)) }
+    ensures worked { IfOk result (λ _. HasWorked (P.meaning problem.now) shared.now.nodes
+        (doing Q.known worker.old) (doing Q.known worker.new)) }
     ensures halt { IfErr result (IsHalt shared.now.nodes (doing Q.known worker.old) (doing Q.known worker.new)) }
     ensures traced { (root : Option ℕ) (number : ℕ)
         → IsTraced (P.meaning problem.now) root (numbered number child.node ∷ []) worker.old.seat.kept
@@ -205,8 +204,8 @@ fn put_children<R: Wait + Sync, Q: BoundedQueue, P: Problem>(
     requires knows { Knows (Q.seats_of shared.now.queue) (Q.capacity_of shared.now.queue) (Q.known worker.old.pass) }
     ensures own { IsOneOf Q.belongs shared.now worker.new }
     ensures knows { Knows (Q.seats_of shared.now.queue) (Q.capacity_of shared.now.queue) (Q.known worker.new.pass) }
-    ensures worked { IfOk result (λ _. GoesOn shared.now.nodes 0 (doing Q.known worker.old) (doing Q.known worker.new)
-        × AtWork (P.meaning problem.now) (doing Q.known worker.new)) }
+    ensures worked { IfOk result (λ _. HasWorked (P.meaning problem.now) shared.now.nodes
+        (doing Q.known worker.old) (doing Q.known worker.new)) }
     ensures halt { IfErr result (IsHalt shared.now.nodes (doing Q.known worker.old) (doing Q.known worker.new)) }
     ensures traced { (root : Option ℕ) (parent : Numbered P.Node)
         → ((name : List ℕ) → (P.meaning problem.now).stands parent.node name
@@ -250,8 +249,8 @@ fn put_kept<R: Wait + Sync, Q: BoundedQueue, P: Problem>(
     requires knows { Knows (Q.seats_of shared.now.queue) (Q.capacity_of shared.now.queue) (Q.known worker.old.pass) }
     ensures own { IsOneOf Q.belongs shared.now worker.new }
     ensures knows { Knows (Q.seats_of shared.now.queue) (Q.capacity_of shared.now.queue) (Q.known worker.new.pass) }
-    ensures worked { IfOk result (λ _. GoesOn shared.now.nodes 0 (doing Q.known worker.old) (doing Q.known worker.new)
-        × AtWork (P.meaning problem.now) (doing Q.known worker.new)) }
+    ensures worked { IfOk result (λ _. HasWorked (P.meaning problem.now) shared.now.nodes
+        (doing Q.known worker.old) (doing Q.known worker.new)) }
     ensures halt { IfErr result (IsHalt shared.now.nodes (doing Q.known worker.old) (doing Q.known worker.new)) }
     ensures traced { (root : Option ℕ) (o : Origin P.Node)
         → HasOrigin (P.meaning problem.now) root o worker.old.seat.kept

@@ -11,7 +11,7 @@ pub returns-in-Some : goal.returns-in-Some
 returns-in-Some g c = let m = g.P.Problem.meaning c.args.problem.now in let sh = c.args.shared.now in let Q = g.Q.SharedQueue in let t = c.requires.together in
     let laws = g.met.P.Problem g.world.𝓛 g.world.𝓜 g.world.𝓡 ((λ s x. x), (λ x. x), (λ x. x), λ x. x) in let lawful = laws.lawful c.args.problem.now c.requires.valid in
     let told = subst (IsStopped c.args.worker.control.kept.stops) c.in-Some.is (c.stopped.ensures.read.whole (all_told t.numbered)) in
-    subst (IsSearchOutcome m sh.nodes (Q.capacity_of sh.queue) (Q.seats_of sh.queue)) (sym c.answer.ensures)
+    subst (IsSearchOutcome m sh.nodes (Q.capacity_of sh.queue) (Q.seats_of sh.queue)) (sym c.of_stop.ensures)
     (stop_answer m sh.nodes (Q.seats_of sh.queue) (Q.capacity_of sh.queue) (idle_calls + 1) (doing Q.known c.args.worker) c.in-Some.stop lawful sh.limit.1 t.numbered t.counted t.knows t.traced (t.causes c.in-Some.stop told))
 
 pub go_alone-requires-clause-together : goal.go_alone-requires-clause-together
@@ -19,5 +19,5 @@ go_alone-requires-clause-together g c κs among = stop_read_together c.stopped.e
 
 pub returns-in-Ok : goal.returns-in-Ok
 returns-in-Ok g c = let m = g.P.Problem.meaning c.args.problem.now in let sh = c.args.shared.now in let Q = g.Q.SharedQueue in let s = c.in-Ok.ensures.solved in
-    subst (IsSearchOutcome m sh.nodes (Q.capacity_of sh.queue) (Q.seats_of sh.queue)) (sym c.best.ensures)
+    subst (IsSearchOutcome m sh.nodes (Q.capacity_of sh.queue) (Q.seats_of sh.queue)) (sym c.of_best.ensures)
     (best_answer m sh.nodes (Q.seats_of sh.queue) (Q.capacity_of sh.queue) _ _ s.ends s.optimal)

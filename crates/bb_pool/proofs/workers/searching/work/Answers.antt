@@ -1,8 +1,8 @@
 use Rattle.std.proofs.Common.{rules, arith, ℕ, ◌≡◌, ◌+◌, length, drop, sym, ap, subst}
 use Rattle.pq_api.specs.Answers.{EachAt}
 use Rattle.bb_pool.specs.declared.workers.shared.Worker.{Worker}
-use Rattle.bb_pool.specs.Limits.{idle_calls}
-use Rattle.bb_pool.specs.Together.{doing, IsOneOf, IsNew, IsTogether}
+use Rattle.bb_pool.specs.Together.{doing, IsOneOf, IsNew}
+use Rattle.bb_pool.specs.Runs.{HasEnded}
 use Rattle.bb_pool.proofs.Several.Each.{written_back}
 use Rattle.bb_pool.proofs.workers.searching.work.Goals as goal
 
@@ -25,5 +25,5 @@ pub join_all-worker-requires-clause-ended : goal.join_all-worker-requires-clause
 join_all-worker-requires-clause-ended g c κs within = let sh = c.args.shared.now in let Q = g.Q.SharedQueue in
     let many : c.args.workers.len ≡ length c.run_from_root.new.workers = search rules in
     let same = written_back c.run_from_root.new.workers (drop (length c.run_from_root.new.workers) c.args.workers.items) c.args.workers.len many in
-    let W : ℕ → Worker g.row.Q-Pass.Denot g.row.P-Node.Denot g.row.P-Plan.Denot → Type 0 = λ k w. IsOneOf Q.belongs sh w × IsTogether (g.P.Problem.meaning c.args.problem.now) sh.nodes (Q.seats_of sh.queue) (Q.capacity_of sh.queue) (idle_calls + 1) (k + 1) (k + 1) (doing Q.known w) in
+    let W : ℕ → Worker g.row.Q-Pass.Denot g.row.P-Node.Denot g.row.P-Plan.Denot → Type 0 = λ k w. HasEnded Q.belongs Q.known Q.seats_of Q.capacity_of (g.P.Problem.meaning c.args.problem.now) sh (k + 1) w in
     subst (EachAt W) (sym same) c.run_from_root.ensures.ended
