@@ -14,6 +14,12 @@ use std::thread::{join, yield_now};
 // Each thread of a test ends after this many turns.
 const TURNS: u32 = 20_000;
 
+// A thread of the test that counts chunks has so many pass through all their states.
+const PASSED: u32 = 5_000;
+
+// After so many turns it ends all the same, and the test fails.
+const MOST_TURNS: u32 = 4_000_000;
+
 const ORDER: Ordering = Ordering::SeqCst;
 
 // What six takes give: two before the second seat pins itself, two under its pin, and two after it.
@@ -89,34 +95,71 @@ fn one_turn(shared: &Shared<Bench>, pass: &mut BenchPass) -> bool
     taken
 }
 
-// How many chunks these turns take.
-fn turns(shared: &Shared<Bench>, pass: &mut BenchPass, turns: u32) -> u32
+// Turns until so many chunks have passed through all their states. The answer is less where that took too many turns.
+fn turns(shared: &Shared<Bench>, pass: &mut BenchPass, wanted: u32) -> u32
     requires wide { first_chunk ≤ shared.now.words }
     requires loose { IsLoose shared.now pass.old }
     ensures loose { IsLoose shared.now pass.new }
 {
-    let mut taken: u32 = 0;
-    for _ in 0..turns {
+    let mut passed: u32 = 0;
+    for _ in 0..MOST_TURNS {
+        if passed == wanted {
+            return passed;
+        }
         if one_turn(shared, pass) {
-            taken = taken.saturating_add(1);
+            passed = passed.saturating_add(1);
+        } else {
+            yield_now();
         }
     }
-    taken
+    passed
 }
 
-// The same with the pass itself, which comes back.
+// The turns of a thread, with the pass itself, which comes back.
 fn all_turns(shared: &Shared<Bench>, pass: BenchPass) -> (u32, BenchPass)
     requires wide { first_chunk ≤ shared.now.words }
     requires loose { IsLoose shared.now pass }
     ensures loose { IsLoose shared.now result.1 }
 {
     let mut pass = pass;
-    let taken = turns(shared, &mut pass, TURNS);
-    (taken, pass)
+    let passed = turns(shared, &mut pass, PASSED);
+    (passed, pass)
 }
 
-// The first seat that builds finds all chunks free. Once both threads have ended, no pin is set, and each chunk comes
-// back by two sweeps.
+// Takes a chunk, makes it live and leaves it so.
+fn one_kept(shared: &Shared<Bench>, pass: &mut BenchPass) -> bool
+    requires builder { HoldsBuilder bench_pool shared.now pass.old }
+    requires agrees { AgreesAt bench_pool shared.now pass.old }
+    ensures builder { HoldsBuilder bench_pool shared.now pass.new }
+    ensures agrees { AgreesAt bench_pool shared.now pass.new }
+{
+    let Some(chunk) = take(shared, pass) else {
+        return false;
+    };
+    Bench::publish(shared, pass, chunk);
+    true
+}
+
+// How many chunks four takes give, where each is made live and stays so. By the first two of them every chunk that was
+// retired is free again.
+fn come_back(shared: &Shared<Bench>, pass: &mut BenchPass) -> u32
+    requires wide { first_chunk ≤ shared.now.words }
+    requires loose { IsLoose shared.now pass.old }
+{
+    if !Bench::try_hold(shared, pass) {
+        return 0;
+    }
+    let mut count: u32 = 0;
+    for _ in 0..4 {
+        if one_kept(shared, pass) {
+            count = count.saturating_add(1);
+        }
+    }
+    count
+}
+
+// Two seats pin themselves, and build where they get the builder's word and a chunk, each until it has had thousands of
+// chunks pass through all their states. Once both threads have ended, no pin is set, and all three chunks come back.
 #[test]
 fn two_seats_pin_and_build_at_once(rt: HostRuntime) {
     let opened = Bench::open(rt.alloc(), 3, 7, 2);
@@ -130,8 +173,8 @@ fn two_seats_pin_and_build_at_once(rt: HostRuntime) {
     );
     let (by_first, mut first) = ran;
     let (by_second, _) = other;
-    assert!(rt; 0 < by_first || 0 < by_second);
-    assert!(rt; 0 < turns(&shared, &mut first, 3));
+    assert_eq!(rt; (by_first, by_second), (PASSED, PASSED));
+    assert_eq!(rt; come_back(&shared, &mut first), 3);
 }
 
 // Takes a chunk and makes it live. The seat holds the builder's word from then on, also where there was no chunk.
