@@ -76,8 +76,8 @@ fn run_words<I: Source, O: Sink>(
 /// Runs the command that the words say, with this gate at the points of the queue's calls.
 ///
 /// As `run_still` does, which serves the commands that need no threads. `trace` runs each lane of its script in a
-/// thread of its own, and `solve` and `prove` each of their workers; they wait for all of them. The workers tell the
-/// gate each node that they have taken.
+/// thread of its own, `solve` and `prove` each of their workers, and `drill` both; they wait for all of them. The
+/// workers tell the gate each node that they have taken.
 pub fn run<Rt: Threads + Wait + Sync, I: Source, O: Sink, E: Sink, G: Gate>(
     rt: &Rt,
     alloc: Global,
@@ -108,8 +108,8 @@ pub fn run<Rt: Threads + Wait + Sync, I: Source, O: Sink, E: Sink, G: Gate>(
 /// Runs the command that the words say, where a queue of several callers is of this kind, with this gate.
 ///
 /// As `run_still` does, which serves the commands that need no threads. `trace` runs each lane of its script in a
-/// thread of its own, and `solve` and `prove` each of their workers; they wait for all of them. The workers tell the
-/// gate each node that they have taken.
+/// thread of its own, `solve` and `prove` each of their workers, and `drill` both; they wait for all of them. The
+/// workers tell the gate each node that they have taken.
 pub fn run_on<Rt: Threads + Wait + Sync, H: BoundedQueue, I: Source, O: Sink, E: Sink>(
     rt: &Rt,
     alloc: Global,

@@ -14,7 +14,7 @@ pub record IsDrillLane (size : ℕ) (acts : List Act) : Type 0 where
   pub size_is : length entries ≡ size
   pub acts_are : acts ≡ map Insert entries ++ replicate size Remove
 
--- the least capacity at which no insert of such lanes may be answered Full
+-- a capacity at which no insert of such lanes may be answered Full: there is room for all entries, and one more a lane
 abbrev pub drill_capacity : ℕ → ℕ → ℕ
 drill_capacity lanes size = lanes * size + lanes
 

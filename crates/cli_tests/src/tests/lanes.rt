@@ -1,4 +1,4 @@
-//! Lanes on the heap: two whose insertions meet in the middle of their work, and those of drills.
+//! Lanes on the heap: two whose insertions meet in the middle of their work, and drills, with the workers of their searches.
 
 use super::run_with;
 use pq_api::{Open, Pair, Point};
@@ -13,6 +13,33 @@ fn two_insertions_meet(rt: HostRuntime) -> Result<(), Fail> {
     assert!(rt; pair.met());
     assert!(rt; !pair.spent());
     assert!(rt; ran.output.bytes().ends_with(b"left 2\n"));
+    Ok(())
+}
+
+// The lanes of a drill run, and at the same time: the first insertion is held in the middle of its work until the other
+// lane's comes there. The search's own first insertion comes later, and before any worker starts.
+#[test]
+fn the_lanes_of_a_drill_meet(rt: HostRuntime) -> Result<(), Fail> {
+    let pair = Pair::new(Point::HeapBusy, 0, 10_000_000);
+    let words = ["drill", "--workers", "2", "--size", "1"];
+    let ran = run_with(&rt, rt.alloc(), &words, "", &pair)?;
+    assert_eq!(rt; ran.status, Status::Ok);
+    assert!(rt; pair.met());
+    assert!(rt; !pair.spent());
+    assert_eq!(rt; ran.output.bytes(), b"marks 4\nleft 0\nvalue 509\n");
+    Ok(())
+}
+
+// Two workers of a drill hold a node each: a search by several runs behind the lanes.
+#[test]
+fn the_workers_of_a_drill_meet(rt: HostRuntime) -> Result<(), Fail> {
+    let pair = Pair::new(Point::WorkerNode, 1, 10_000_000);
+    let words = ["drill", "--workers", "2", "--size", "1"];
+    let ran = run_with(&rt, rt.alloc(), &words, "", &pair)?;
+    assert_eq!(rt; ran.status, Status::Ok);
+    assert!(rt; pair.met());
+    assert!(rt; !pair.spent());
+    assert_eq!(rt; ran.output.bytes(), b"marks 4\nleft 0\nvalue 509\n");
     Ok(())
 }
 

@@ -5,17 +5,22 @@ use pq_api::{Open, Pair, Point};
 use pq_cli::Status;
 use std::test::Fail;
 
-// The one that takes the root goes on, and leaves three children. Of the two that then take one, the first is held
-// until the second comes.
+// The one that takes the root goes on, and leaves its children. Of the two that then take one, the first is held until
+// the second comes.
 #[test]
 fn two_workers_hold_a_node_each(rt: HostRuntime) -> Result<(), Fail> {
-    let pair = Pair::new(Point::WorkerNode, 1, 10_000_000);
-    let words = ["solve", "shop", "--workers", "2"];
-    let ran = run_with(&rt, rt.alloc(), &words, THREE_BY_THREE, &pair)?;
-    assert_eq!(rt; ran.status, Status::Ok);
-    assert!(rt; pair.met());
-    assert!(rt; !pair.spent());
-    assert!(rt; ran.output.bytes().starts_with(b"makespan 11\n"));
+    for (kind, input, output) in [
+        ("shop", THREE_BY_THREE, "makespan 11\n"),
+        ("knapsack", THREE_ITEMS, "value 7\nitems 0 1\n"),
+    ] {
+        let pair = Pair::new(Point::WorkerNode, 1, 10_000_000);
+        let words = ["solve", kind, "--workers", "2"];
+        let ran = run_with(&rt, rt.alloc(), &words, input, &pair)?;
+        assert_eq!(rt; ran.status, Status::Ok, "of the {kind}");
+        assert!(rt; pair.met(), "at the {kind}");
+        assert!(rt; !pair.spent(), "at the {kind}");
+        assert!(rt; ran.output.bytes().starts_with(output.as_bytes()), "of the {kind}");
+    }
     Ok(())
 }
 

@@ -1,9 +1,10 @@
 //! `drill`: lanes on a queue, and a search over one of its kind, both made from a number.
 
-ghost use Rattle.std.specs.Prelude.{◌≡◌, ◌+◌, ◌*◌, ◌≤◌, IfOk, IfErr};
-ghost use Rattle.inst_text.specs.Generator.{made_knapsack};
+ghost use Rattle.std.specs.Prelude.{◌≡◌, ◌+◌, ◌*◌, ◌≤◌, ◌<◌, length, IfOk, IfErr};
+ghost use Rattle.inst_text.specs.Generator.{made_knapsack, made_script};
 ghost use Rattle.inst_text.specs.Limits.{max_made_inserts};
 ghost use Rattle.pq_lanes.specs.Drills.{drill_capacity};
+ghost use Rattle.pq_lanes.specs.Tracing.{IsTraceOf};
 ghost use Rattle.bb_problem.specs.Tree.{needed};
 ghost use Rattle.bb_knap.specs.Branching.{tree_of, least_cost};
 ghost use Rattle.pq_cli.specs.declared.refusal.Refusal.TheVariants as refusals;
@@ -24,6 +25,7 @@ use inst_text::{make_knapsack, make_script};
 use pq_api::BoundedQueue;
 use pq_io::NoMemory;
 use pq_lanes::{drills_leave_nothing, made_scripts_are_drills, trace_script};
+use pq_tape::History;
 use std::alloc::Global;
 use std::sync::Wait;
 use std::thread::Threads;
@@ -60,7 +62,8 @@ where
     requires { IsDrillWithin Q.SEATS Q.CAPACITY workers size }
     ensures { IsMade (drill_text workers seed size) result }
 {
-    let ended = run_made::<Rt, Q>(rt, alloc, workers, seed, size, gate)?;
+    let history = run_made::<Rt, Q>(rt, alloc, workers, seed, size, gate)?;
+    let ended = counted(&history);
     let value = solve_made::<Rt, Q>(rt, alloc, workers, seed, gate)?;
     let text = summary_text(alloc, ended.marks, ended.left, value)?;
     Ok(Answer::Text {
@@ -69,7 +72,7 @@ where
     })
 }
 
-// Runs the lanes that belong to the seed on a queue which none of them ever finds full.
+// The history of the lanes that belong to the seed, on a queue which none of them ever finds full.
 fn run_made<Rt: Threads + Wait + Sync, Q: BoundedQueue>(
     rt: &Rt,
     alloc: Global,
@@ -77,23 +80,34 @@ fn run_made<Rt: Threads + Wait + Sync, Q: BoundedQueue>(
     seed: u32,
     size: u32,
     gate: Q::Gate,
-) -> Result<Ended, NoMemory>
+) -> Result<History, NoMemory>
     requires some { 1 ≤ workers }
     requires few { workers ≤ Q.SEATS }
     requires size { size ≤ max_made_inserts }
     requires capacity { drill_capacity workers size ≤ Q.CAPACITY }
-    ensures marks { IfOk result (λ e. e.marks ≡ 2 * (workers * size)) }
-    ensures left { IfOk result (λ e. e.left ≡ 0) }
+    ensures trace { IfOk result (λ h.
+        IsTraceOf (drill_capacity workers size) (made_script seed workers size) h.marks) }
+    ensures marks { IfOk result (λ h. length h.marks ≡ 2 * (workers * size)) }
+    ensures left { IfOk result (λ h. h.left ≡ 0) }
 {
     let script = make_script(alloc, seed, workers, size)?;
     made_scripts_are_drills();
     let capacity = workers * size + workers;
     let history = trace_script::<Rt, Q>(rt, alloc, &script, capacity, gate)?;
     drills_leave_nothing();
-    Ok(Ended {
+    Ok(history)
+}
+
+// What a history tells, and nothing of what was asked for.
+fn counted(history: &History) -> Ended
+    requires few { length history.now.marks < 4294967296 }
+    ensures marks { result.marks ≡ length history.now.marks }
+    ensures left { result.left ≡ history.now.left }
+{
+    Ended {
         marks: history.marks.len() as u32,
         left: history.left,
-    })
+    }
 }
 
 // The value of a best choice of the knapsack that belongs to the seed.

@@ -1,0 +1,1 @@
+cat "${0%/*}/limit-nodes-ft06.in"
