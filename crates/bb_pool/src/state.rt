@@ -49,6 +49,7 @@ impl<C: OnePass, N: Drop, P: Drop> Search<C, N, P> {
     }
 
     /// Gives the node with this bound the next number, puts it into the store under it, and inserts an entry for it.
+    #[inline]
     pub(crate) fn put(&mut self, key: u32, node: N) -> Result<(), Stop>
         requires key { key < key_limit }
         requires few { length self.old.store < id_limit }
@@ -77,6 +78,7 @@ impl<C: OnePass, N: Drop, P: Drop> Search<C, N, P> {
 
     /// Removes the least entry and takes its node out of the store, where its key is below the best cost, and
     /// gives `None` where there is no such entry.
+    #[inline]
     pub(crate) fn take(&mut self) -> Option<Child<N>>
         requires stored { All (IsStored self.old.store) (held (C.seat self.old.pass)) }
         requires calls { length (C.seat self.old.pass).known.calls < call_limit - 1 }

@@ -52,6 +52,7 @@ impl<N: Drop> Store<N> {
     }
 
     /// Puts the node under the next number. Constant time, and no memory while there is room.
+    #[inline]
     pub(crate) fn push(&mut self, node: N) -> Result<(), NoMemory>
         ensures { OnOk result (self.new ≡ self.old ++ Some node ∷ []) }
     {
@@ -66,6 +67,7 @@ impl<N: Drop> Store<N> {
     }
 
     /// Takes the node with this number out. Constant time.
+    #[inline]
     pub(crate) fn take(&mut self, number: usize) -> N
         requires { Holds self.old number }
         ensures node { slice_get self.old number ≡ Some (Some result) }
