@@ -56,7 +56,6 @@ fn capacity_of(table: &HuntTable) -> u32
 }
 
 // One turn: the next hole, or 0 where the entry in hand fills this one.
-#[inline]
 fn sift_once<W: Wait>(
     table: &HuntTable,
     rt: &W,
