@@ -1,8 +1,9 @@
 -- What the outcomes of a search by several workers mean.
-use Rattle.std.specs.Prelude.{ℕ, ◌≡◌, ◌+◌, ◌<◌, IsSomeAnd}
+use Rattle.std.specs.Prelude.{ℕ, ◌≡◌, ◌≢◌, ◌+◌, ◌<◌, [], Contains, Some, IsSomeAnd}
 use Rattle.pq_model.specs.declared.passes.Known.{Known}
 use Rattle.bb_problem.specs.Meaning.{Meaning}
 use Rattle.bb_shared.specs.declared.control.stop.Stop.{Stop}
+use Rattle.bb_shared.specs.declared.control.told.Told.{Told}
 use Rattle.bb_pool.specs.declared.outcome.Outcome.{Outcome}
 use Rattle.bb_pool.specs.declared.outcome.Outcome.TheVariants as outcomes
 use Rattle.bb_pool.specs.Costs.{limit_of}
@@ -25,6 +26,11 @@ IsSearchOutcome m nodes capacity seats outcomes.NoMemory = Unit {0}
 -- the same of what ends a search early
 abbrev pub IsSearchStop : {N P : Type 0} → Meaning N P → ℕ → ℕ → ℕ → Stop → Type 0
 IsSearchStop m nodes capacity seats stop = IsSearchOutcome m nodes capacity seats (outcome_of stop nodes)
+
+-- The first stop is the answer: the one that these workers know as the first. Where they set stops, it is one of them.
+pub record IsFirstStop {P : Type 0} (told : Told) (nodes : ℕ) (answer : Outcome P) : Type 0 where
+  pub known : (stop : Stop) → told.first ≡ Some stop → answer ≡ outcome_of stop nodes
+  pub set : told.stops ≢ [] → (stop : Stop) × Contains told.stops stop × (answer ≡ outcome_of stop nodes)
 
 -- There is a best plan, it is optimal, and the worker's last call asked for an entry below its cost and found none.
 pub record IsSolved {N P : Type 0} (m : Meaning N P) (seats capacity : ℕ) (w : Doing N P) : Type 0 where

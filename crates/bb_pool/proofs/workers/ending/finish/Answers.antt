@@ -7,8 +7,8 @@ use Rattle.bb_pool.proofs.Several.Runs.{stop_read_together}
 use Rattle.bb_pool.proofs.Several.Answers.{stop_answer, best_answer, all_told}
 use Rattle.bb_pool.proofs.workers.ending.finish.Goals as goal
 
-pub returns-in-Some : goal.returns-in-Some
-returns-in-Some g c = let m = g.P.Problem.meaning c.args.problem.now in let sh = c.args.shared.now in let Q = g.Q.SharedQueue in let t = c.requires.together in
+pub returns-in-Some-clause-outcome : goal.returns-in-Some-clause-outcome
+returns-in-Some-clause-outcome g c = let m = g.P.Problem.meaning c.args.problem.now in let sh = c.args.shared.now in let Q = g.Q.SharedQueue in let t = c.requires.together in
     let laws = g.met.P.Problem g.world.𝓛 g.world.𝓜 g.world.𝓡 ((λ s x. x), (λ x. x), (λ x. x), λ x. x) in let lawful = laws.lawful c.args.problem.now c.requires.valid in
     let told = subst (IsStopped c.args.worker.control.kept.stops) c.in-Some.is (c.stopped.ensures.read.whole (all_told t.numbered)) in
     subst (IsSearchOutcome m sh.nodes (Q.capacity_of sh.queue) (Q.seats_of sh.queue)) (sym c.of_stop.ensures)
@@ -17,7 +17,7 @@ returns-in-Some g c = let m = g.P.Problem.meaning c.args.problem.now in let sh =
 pub go_alone-requires-clause-together : goal.go_alone-requires-clause-together
 go_alone-requires-clause-together g c κs among = stop_read_together c.stopped.ensures.read refl refl refl refl c.requires.together
 
-pub returns-in-Ok : goal.returns-in-Ok
-returns-in-Ok g c = let m = g.P.Problem.meaning c.args.problem.now in let sh = c.args.shared.now in let Q = g.Q.SharedQueue in let s = c.in-Ok.ensures.solved in
+pub returns-in-Ok-clause-outcome : goal.returns-in-Ok-clause-outcome
+returns-in-Ok-clause-outcome g c = let m = g.P.Problem.meaning c.args.problem.now in let sh = c.args.shared.now in let Q = g.Q.SharedQueue in let s = c.in-Ok.ensures.solved in
     subst (IsSearchOutcome m sh.nodes (Q.capacity_of sh.queue) (Q.seats_of sh.queue)) (sym c.of_best.ensures)
     (best_answer m sh.nodes (Q.seats_of sh.queue) (Q.capacity_of sh.queue) _ _ s.ends s.optimal)
