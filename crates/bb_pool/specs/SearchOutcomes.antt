@@ -1,6 +1,7 @@
 -- What the outcomes of a search by several workers mean.
-use Rattle.std.specs.Prelude.{ℕ, ◌≡◌, ◌≢◌, ◌+◌, ◌<◌, [], Contains, Some, IsSomeAnd}
+use Rattle.std.specs.Prelude.{ℕ, ◌≡◌, ◌≢◌, ◌+◌, ◌<◌, ◌≤◌, [], Contains, Some, IsSomeAnd}
 use Rattle.pq_model.specs.declared.passes.Known.{Known}
+use Rattle.bb_problem.specs.Limits.{size_limit}
 use Rattle.bb_problem.specs.Meaning.{Meaning}
 use Rattle.bb_shared.specs.declared.control.stop.Stop.{Stop}
 use Rattle.bb_shared.specs.declared.control.told.Told.{Told}
@@ -18,7 +19,7 @@ abbrev pub IsSearchOutcome : {N P : Type 0} → Meaning N P → ℕ → ℕ → 
 IsSearchOutcome m nodes capacity seats (outcomes.Best plan cost) =
     IsOptimal m.is_feasible m.cost_of plan cost × (known : Known) × EndsAt seats capacity cost known
 IsSearchOutcome m nodes capacity seats (outcomes.NodeLimit asked limit) =
-    (limit ≡ nodes) × (limit < asked) × (limit < m.tree_size)
+    (limit ≡ nodes) × (limit < asked) × (limit < m.tree_size) × (m.tree_size < size_limit → asked ≤ m.tree_size)
 IsSearchOutcome m nodes capacity seats (outcomes.Full place) =
     (capacity < nodes + seats) × IsFullMark seats capacity place
 IsSearchOutcome m nodes capacity seats outcomes.NoMemory = Unit {0}

@@ -2,6 +2,7 @@
 
 ghost use Rattle.std.specs.Prelude.{◌≡◌, ◌≤◌, ◌<◌};
 ghost use Rattle.pq_model.specs.Passes.{fresh};
+ghost use Rattle.bb_problem.specs.Limits.{size_limit};
 ghost use Rattle.bb_pool.specs.Limits.{max_nodes};
 ghost use Rattle.bb_pool.specs.Outcomes.{IsOutcome, IfNodeLimit};
 
@@ -73,6 +74,8 @@ pub(crate) fn search_alone<R: Wait + Sync, P: Problem, Q: BoundedQueue, G: Gate>
     ensures outcome { IsOutcome (P.meaning problem.now) nodes (Q.capacity_of queue) result }
     // A node limit of the tree's size is never too low.
     ensures below_size { IfNodeLimit result (λ asked limit. limit < (P.meaning problem.now).tree_size) }
+    ensures within_size { let size = (P.meaning problem.now).tree_size in
+        IfNodeLimit result (λ asked limit. size < size_limit → asked ≤ size) }
 {
     let pass = QueuePass {
         queue,

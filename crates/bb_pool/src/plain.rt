@@ -2,7 +2,7 @@
 
 ghost use Rattle.std.specs.Prelude.{ℕ, ◌≡◌, ◌≤◌, ◌<◌, List, [], IfOk, IfErr, length};
 ghost use Rattle.pq_model.specs.Passes.{fresh};
-ghost use Rattle.bb_problem.specs.Limits.{max_children};
+ghost use Rattle.bb_problem.specs.Limits.{max_children, size_limit};
 ghost use Rattle.bb_pool.specs.Limits.{max_nodes};
 ghost use Rattle.bb_pool.specs.Outcomes.{IsOutcome, IsStop, IfNodeLimit};
 ghost use Rattle.bb_pool.specs.Children.{StandAt};
@@ -62,6 +62,8 @@ pub(crate) fn search_turns<C: OnePass, P: Problem>(
     requires nodes { (1 ≤ nodes) × (nodes ≤ max_nodes) }
     ensures outcome { IsOutcome (P.meaning problem.now) nodes (C.seat pass).capacity result }
     ensures below_size { IfNodeLimit result (λ asked limit. limit < (P.meaning problem.now).tree_size) }
+    ensures within_size { let size = (P.meaning problem.now).tree_size in
+        IfNodeLimit result (λ asked limit. size < size_limit → asked ≤ size) }
 {
     needed_is_at_most_tree_size(problem);
     let mut search = match begin(alloc, problem, pass, nodes) {

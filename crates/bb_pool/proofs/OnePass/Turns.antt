@@ -237,3 +237,10 @@ stop_below_size m nodes capacity (NodeLimit asked) is sized few = elim (cases_lt
 ]
 stop_below_size m nodes capacity (Full place) is sized few = tt
 stop_below_size m nodes capacity NoMemory is sized few = tt
+
+-- and no more nodes were asked for than the tree has
+pub stop_within_size : {N P : Type 0} (m : Meaning N P) (nodes capacity : ℕ) (stop : Stop) → IsStop m nodes capacity stop → (m.tree_size < size_limit → needed m.tree m.least ≤ m.tree_size)
+    → IfNodeLimit {P = P} (outcome_of stop nodes) (λ asked limit. m.tree_size < size_limit → asked ≤ m.tree_size)
+stop_within_size m nodes capacity (NodeLimit asked) is sized = λ small. let enough = sized small in let within = is.within in omega arith
+stop_within_size m nodes capacity (Full place) is sized = tt
+stop_within_size m nodes capacity NoMemory is sized = tt

@@ -39,14 +39,16 @@ whole_of t n is = t.each n is.0 is.1
 
 pub stop_answer : {N L : Type 0} (m : Meaning N L) (nodes seats capacity idle : ℕ) (w : Doing N L) (stop : Stop) → IsLawful m → nodes ≤ max_nodes → IsNumbered seats 1 seats w → IsCounted nodes idle w → Knows seats capacity w.known → IsTracedFrom m 1 w.stored → IsCause nodes w.known w.stored.draws stop
     → IsSearchStop m nodes capacity seats stop
-stop_answer m nodes seats capacity idle w (stops.NodeLimit asked) laws few t c knows (root, alone, traced) (over, d, has, low, is) = (
-  refl,
-  over,
-  elim (cases_lt m.tree_size size_limit) [
-    | inl small ↦ (let within = drawn_within_size m root w.stored nodes traced c.knows (let a = t.parts in let b = t.seats_are in omega arith) laws d asked has low is small in omega arith)
-    | inr large ↦ omega arith
-  ],
-)
+stop_answer m nodes seats capacity idle w (stops.NodeLimit asked) laws few t c knows (root, alone, traced) (over, d, has, low, is) =
+    let sized : m.tree_size < size_limit → asked ≤ m.tree_size = drawn_within_size m root w.stored nodes traced c.knows (let a = t.parts in let b = t.seats_are in omega arith) laws d asked has low is in (
+      refl,
+      over,
+      elim (cases_lt m.tree_size size_limit) [
+        | inl small ↦ (let within = sized small in omega arith)
+        | inr large ↦ omega arith
+      ],
+      sized,
+    )
 stop_answer m nodes seats capacity idle w stops.NoMemory laws few t c knows traced cause = tt
 stop_answer m nodes seats capacity idle w (stops.Full place) laws few t c (history, is) traced (e, l, has, there) =
     let made : Call = call place (Insert e) replies.Full in
@@ -75,11 +77,11 @@ best_answer m nodes seats capacity k None ends is = absurd is
 best_answer m nodes seats capacity k (Some f) ends is = (is, k, ends)
 
 -- what a search with one caller says, said as that of several
-pub one_outcome : {N L : Type 0} (m : Meaning N L) (nodes capacity seats : ℕ) (out : Outcome L) → seats ≡ 1 → IfNodeLimit out (λ asked limit. limit < m.tree_size) → IsOutcome m nodes capacity out → IsSearchOutcome m nodes capacity seats out
-one_outcome m nodes capacity seats (outcomes.Best plan cost) one low (k, is) = (is.optimal, k, subst (λ (n : ℕ). EndsAt n capacity cost k) (sym one) is.ended)
-one_outcome m nodes capacity seats (outcomes.NodeLimit asked limit) one low is = (is.limit_is, is.over, low)
-one_outcome m nodes capacity seats (outcomes.Full place) one low is = ((let below = is.below_limit in omega arith), subst (λ (n : ℕ). IsFullMark n capacity place) (sym one) is.told)
-one_outcome m nodes capacity seats outcomes.NoMemory one low is = tt
+pub one_outcome : {N L : Type 0} (m : Meaning N L) (nodes capacity seats : ℕ) (out : Outcome L) → seats ≡ 1 → IfNodeLimit out (λ asked limit. limit < m.tree_size) → IfNodeLimit out (λ asked limit. m.tree_size < size_limit → asked ≤ m.tree_size) → IsOutcome m nodes capacity out → IsSearchOutcome m nodes capacity seats out
+one_outcome m nodes capacity seats (outcomes.Best plan cost) one low sized (k, is) = (is.optimal, k, subst (λ (n : ℕ). EndsAt n capacity cost k) (sym one) is.ended)
+one_outcome m nodes capacity seats (outcomes.NodeLimit asked limit) one low sized is = (is.limit_is, is.over, low, sized)
+one_outcome m nodes capacity seats (outcomes.Full place) one low sized is = ((let below = is.below_limit in omega arith), subst (λ (n : ℕ). IsFullMark n capacity place) (sym one) is.told)
+one_outcome m nodes capacity seats outcomes.NoMemory one low sized is = tt
 
 pub size_outcome : {N L : Type 0} (m : Meaning N L) (nodes capacity seats : ℕ) (out : Outcome L) → IsSearchOutcome m nodes capacity seats out → IfNodeLimit out (λ asked limit. limit < m.tree_size)
 size_outcome m nodes capacity seats (outcomes.Best plan cost) is = tt

@@ -37,9 +37,9 @@ use std::thread::Threads;
 /// `Best` gives a feasible plan with its cost, and no feasible plan costs less. There are calls of all passes whose
 /// legal history ends with a removal below this cost that found no such entry, and it leaves none with a lower key; that
 /// they are the calls of this search is said of the functions under it, which hold the passes. `NodeLimit` comes where a branch's
-/// children would pass the limit, before one of them is put; the limit is then below the size of the tree. `Full`
-/// comes where an insert was answered so, at its place; the capacity is then below `nodes` and the number of passes
-/// together. `NoMemory` comes where there was none for the root, the store, the workers, a node's expansion or the
+/// children would pass the limit, before one of them is put; the limit is then below the size of the tree, and no more
+/// nodes were asked for than this size, where it is below 2^64. `Full` comes where an insert was answered so, at its
+/// place; the capacity is then below `nodes` and the number of passes together. `NoMemory` comes where there was none for the root, the store, the workers, a node's expansion or the
 /// bounds of its children. Of several stops the first is the answer. Queue, passes and the nodes still open are
 /// dropped.
 ///
