@@ -5,13 +5,15 @@ use Rattle.bb_problem.specs.Limits.{size_limit}
 use Rattle.bb_problem.specs.Meaning.{Meaning}
 use Rattle.bb_shared.specs.declared.control.stop.Stop.{Stop}
 use Rattle.bb_shared.specs.declared.control.told.Told.{Told}
+use Rattle.bb_shared.specs.Stores.{AreMatched}
 use Rattle.bb_pool.specs.declared.outcome.Outcome.{Outcome}
 use Rattle.bb_pool.specs.declared.outcome.Outcome.TheVariants as outcomes
 use Rattle.bb_pool.specs.Costs.{limit_of}
 use Rattle.bb_pool.specs.Endings.{EndsAt, IsFullMark}
 use Rattle.bb_pool.specs.Outcomes.{IsOptimal, outcome_of}
 use Rattle.bb_pool.specs.Underway.{cost_so_far}
-use Rattle.bb_pool.specs.Together.{Doing}
+use Rattle.bb_pool.specs.Working.{IsRooted}
+use Rattle.bb_pool.specs.Together.{Doing, AtWork}
 
 -- What each outcome says, under this node limit, on a queue of this capacity and with so many seats. That there is no
 -- memory says nothing.
@@ -33,7 +35,19 @@ pub record IsFirstStop {P : Type 0} (told : Told) (nodes : ℕ) (answer : Outcom
   pub known : (stop : Stop) → told.first ≡ Some stop → answer ≡ outcome_of stop nodes
   pub set : told.stops ≢ [] → (stop : Stop) × Contains told.stops stop × (answer ≡ outcome_of stop nodes)
 
--- There is a best plan, it is optimal, and the worker's last call asked for an entry below its cost and found none.
+-- What all workers did, joined into one, is a search that has found a best plan. The root was put and an entry for it
+-- inserted. Each entry that was removed is handled, and each node that was taken is the one that was put under its
+-- number. The last call of all asked for an entry below the cost of the plan, and there was none. A leaf that was taken
+-- gave the plan, and it is optimal.
 pub record IsSolved {N P : Type 0} (m : Meaning N P) (seats capacity : ℕ) (w : Doing N P) : Type 0 where
+  pub rooted : IsRooted m w.known w.stored.puts
+  pub working : AtWork m w
+  pub matched : AreMatched w.stored.puts w.stored.takes
   pub ends : EndsAt seats capacity (limit_of (cost_so_far w.found)) w.known
   pub optimal : IsSomeAnd w.found (λ f. IsOptimal m.is_feasible m.cost_of f.plan f.cost)
+
+-- A best plan, with its cost, is the one that was found by what all workers did. Other outcomes say nothing here.
+abbrev pub IsFoundByAll : {N P : Type 0} → Meaning N P → ℕ → ℕ → Outcome P → Type 0
+IsFoundByAll {N} {P} m seats capacity (outcomes.Best plan cost) =
+    (w : Doing N P) × IsSolved m seats capacity w × IsSomeAnd w.found (λ f. (f.plan ≡ plan) × (f.cost ≡ cost))
+IsFoundByAll m seats capacity _ = Unit {0}

@@ -21,13 +21,13 @@ use Rattle.bb_pool.specs.declared.outcome.Outcome.TheVariants as outcomes
 use Rattle.bb_pool.specs.Costs.{limit_of}
 use Rattle.bb_pool.specs.Endings.{IsWhole, EndsAt, IsFullMark}
 use Rattle.bb_pool.specs.Limits.{max_nodes}
-use Rattle.bb_pool.specs.Outcomes.{IsOptimal, IsOutcome, IfNodeLimit}
+use Rattle.bb_pool.specs.Outcomes.{IsOptimal, IsOutcome, IfNodeLimit, outcome_of}
 use Rattle.bb_pool.specs.Origins.{IsTracedFrom}
 use Rattle.bb_pool.specs.Underway.{cost_so_far, best_outcome}
 use Rattle.bb_pool.specs.Together.{Doing, AtWork, IsCounted, IsNumbered, IsCause, IsTogether, GoesOn}
 use Rattle.bb_pool.specs.Turns.{EndsIfWhole}
 use Rattle.bb_pool.specs.Runs.{HasRun}
-use Rattle.bb_pool.specs.SearchOutcomes.{IsSearchOutcome, IsSearchStop, IsSolved}
+use Rattle.bb_pool.specs.SearchOutcomes.{IsSearchOutcome, IsSearchStop, IsSolved, IsFoundByAll}
 use Rattle.bb_pool.proofs.Several.Turning.{rooted_more}
 use Rattle.bb_pool.proofs.Several.Growing.{best_is_optimal}
 use Rattle.bb_pool.proofs.Several.Room.{full_needs_room}
@@ -66,15 +66,29 @@ solved {m} {nodes} {seats} {capacity} {idle} {u} {v} {w} laws none t r on work e
     let store_parts : w.stored.parts ≡ w.stored.seats = let a = n.parts in let b = n.seats_are in omega arith in
     let last = ends parts (whole_of n) in
     let knows = (on.counted idle (idle + 1) refl r.counted).knows in
+    let rooted = rooted_more m u.known w.known u.stored.puts w.stored.puts f.calls f.puts (t.rooted refl none) in
     record {
+      rooted = rooted;
+      working = work;
+      matched = knows.matched store_parts;
       ends = last.0;
-      optimal = best_is_optimal m seats capacity nodes w.known w.stored w.told w.found laws work
-          (rooted_more m u.known w.known u.stored.puts w.stored.puts f.calls f.puts (t.rooted refl none)) last.0 knows store_parts (subst (λ (o : Option ℕ). IsLower w.told.own o) (sym last.1) (λ x better. better));
+      optimal = best_is_optimal m seats capacity nodes w.known w.stored w.told w.found laws work rooted last.0 knows store_parts (subst (λ (o : Option ℕ). IsLower w.told.own o) (sym last.1) (λ x better. better));
     }
 
 pub best_answer : {N L : Type 0} (m : Meaning N L) (nodes seats capacity : ℕ) (k : Known) (found : Option (Found L)) → EndsAt seats capacity (limit_of (cost_so_far found)) k → IsSomeAnd found (λ f. IsOptimal m.is_feasible m.cost_of f.plan f.cost) → IsSearchOutcome m nodes capacity seats (best_outcome found)
 best_answer m nodes seats capacity k None ends is = absurd is
 best_answer m nodes seats capacity k (Some f) ends is = (is, k, ends)
+
+-- the best plan is the one that all found
+pub found_by_all : {N L : Type 0} (m : Meaning N L) (seats capacity : ℕ) (w : Doing N L) (found : Option (Found L)) → w.found ≡ found → IsSolved m seats capacity w → IsFoundByAll m seats capacity (best_outcome found)
+found_by_all m seats capacity w None is solved = tt
+found_by_all m seats capacity w (Some f) is solved = (w, solved, subst (λ (o : _). IsSomeAnd o (λ h. (h.plan ≡ f.plan) × (h.cost ≡ f.cost))) (sym is) (refl, refl))
+
+-- a stop says nothing of a plan
+pub none_found : {N L : Type 0} (m : Meaning N L) (nodes seats capacity : ℕ) (stop : Stop) → IsFoundByAll m seats capacity (outcome_of stop nodes)
+none_found m nodes seats capacity (stops.NodeLimit asked) = tt
+none_found m nodes seats capacity (stops.Full place) = tt
+none_found m nodes seats capacity stops.NoMemory = tt
 
 -- what a search with one caller says, said as that of several
 pub one_outcome : {N L : Type 0} (m : Meaning N L) (nodes capacity seats : ℕ) (out : Outcome L) → seats ≡ 1 → IfNodeLimit out (λ asked limit. limit < m.tree_size) → IfNodeLimit out (λ asked limit. m.tree_size < size_limit → asked ≤ m.tree_size) → IsOutcome m nodes capacity out → IsSearchOutcome m nodes capacity seats out

@@ -7,7 +7,7 @@ ghost use Rattle.bb_pool.specs.Limits.{idle_calls};
 ghost use Rattle.bb_pool.specs.Working.{lesser_found};
 ghost use Rattle.bb_pool.specs.Together.{doing, IsOneOf, IsTogether};
 ghost use Rattle.bb_pool.specs.Runs.{HasEnded, IsJoinedOf};
-ghost use Rattle.bb_pool.specs.SearchOutcomes.{IsSearchOutcome, IsSearchStop, IsFirstStop, IsSolved};
+ghost use Rattle.bb_pool.specs.SearchOutcomes.{IsSearchOutcome, IsSearchStop, IsFirstStop, IsSolved, IsFoundByAll};
 
 use super::shared::{Shared, Worker};
 use super::turn::{Turn, take_turn};
@@ -98,6 +98,8 @@ pub(crate) fn finish<R: Wait + Sync, Q: BoundedQueue, P: Problem, G: Gate>(
         (Q.capacity_of shared.now.queue) (idle_calls + 1) 1 (Q.seats_of shared.now.queue) (doing Q.known worker) }
     ensures outcome { IsSearchOutcome (P.meaning problem.now) shared.now.nodes (Q.capacity_of shared.now.queue)
         (Q.seats_of shared.now.queue) result }
+    ensures found { IsFoundByAll (P.meaning problem.now) (Q.seats_of shared.now.queue)
+        (Q.capacity_of shared.now.queue) result }
     ensures first { IsFirstStop worker.control.kept shared.now.nodes result }
 {
     let mut worker = worker;

@@ -1,13 +1,13 @@
 //! The search by several workers, from the passes of a queue to the outcome.
 
-ghost use Rattle.std.specs.Prelude.{◌≡◌, ◌+◌, ◌≤◌, ◌<◌, [], length};
+ghost use Rattle.std.specs.Prelude.{◌≡◌, ◌≢◌, ◌+◌, ◌≤◌, ◌<◌, [], length};
 ghost use Rattle.pq_model.specs.Passes.{fresh};
 ghost use Rattle.pq_api.specs.Answers.{EachAt};
 ghost use Rattle.bb_pool.specs.Limits.{max_nodes};
 ghost use Rattle.bb_pool.specs.Outcomes.{IsOutcome, IfNodeLimit};
 ghost use Rattle.bb_pool.specs.Together.{doing, IsOneOf, IsNew};
 ghost use Rattle.bb_pool.specs.Runs.{HasEnded};
-ghost use Rattle.bb_pool.specs.SearchOutcomes.{IsSearchOutcome};
+ghost use Rattle.bb_pool.specs.SearchOutcomes.{IsSearchOutcome, IsFoundByAll};
 
 use super::ending::{finish, join_all};
 use super::opening::{begin, open};
@@ -35,12 +35,13 @@ use std::thread::Threads;
 /// made 2^24 calls. Then all are joined into one, which goes on alone until no such entry is left.
 ///
 /// `Best` gives a feasible plan with its cost, and no feasible plan costs less. There are calls of all passes whose
-/// legal history ends with a removal below this cost that found no such entry, and it leaves none with a lower key; that
-/// they are the calls of this search is said of the functions under it, which hold the passes. `NodeLimit` comes where a branch's
-/// children would pass the limit, before one of them is put; the limit is then below the size of the tree, and no more
-/// nodes were asked for than this size, where it is below 2^64. `Full` comes where an insert was answered so, at its
-/// place; the capacity is then below `nodes` and the number of passes together. `NoMemory` comes where there was none for the root, the store, the workers, a node's expansion or the
-/// bounds of its children. Of several stops the first is the answer. Queue, passes and the nodes still open are
+/// legal history ends with a removal below this cost that found no such entry, and it leaves none with a lower key. Of
+/// several passes these calls have the root's insert in them and account for each entry that was removed, up to this
+/// plan, which is `found`. `NodeLimit` comes where a branch's children would pass the limit, before one of them is put;
+/// the limit is then below the size of the tree, and no more nodes were asked for than this size, where it is below
+/// 2^64. `Full` comes where an insert was answered so, at its place; the capacity is then below `nodes` and the number
+/// of passes together. `NoMemory` comes where there was none for the root, the store, the workers, a node's expansion
+/// or the bounds of its children. Of several stops the first is the answer. Queue, passes and the nodes still open are
 /// dropped.
 ///
 /// With one pass it takes the turns of `search_plain` and ends as that does, which is `one`.
@@ -71,6 +72,9 @@ pub fn search<R: Threads + Wait + Sync, Q: BoundedQueue, P: Problem, G: Gate>(
     requires own { EachAt (λ k p. Q.belongs queue p × (Q.known p ≡ fresh (k + 1))) passes.items }
     requires nodes { (1 ≤ nodes) × (nodes ≤ max_nodes) }
     ensures outcome { IsSearchOutcome (P.meaning problem.now) nodes (Q.capacity_of queue) (Q.seats_of queue) result }
+    // Of several passes the calls have the root's insert in them, and lead to this plan.
+    ensures found { Q.seats_of queue ≢ 1 →
+        IsFoundByAll (P.meaning problem.now) (Q.seats_of queue) (Q.capacity_of queue) result }
     ensures one { Q.seats_of queue ≡ 1 → IsOutcome (P.meaning problem.now) nodes (Q.capacity_of queue) result }
     // A node limit of the tree's size is never too low.
     ensures below_size { IfNodeLimit result (λ asked limit. limit < (P.meaning problem.now).tree_size) }
@@ -96,7 +100,8 @@ fn search_together<R: Threads + Wait + Sync, Q: BoundedQueue, P: Problem, G: Gat
     requires passes { length passes.items ≡ Q.seats_of queue }
     requires own { EachAt (λ k p. Q.belongs queue p × (Q.known p ≡ fresh (k + 1))) passes.items }
     requires nodes { (1 ≤ nodes) × (nodes ≤ max_nodes) }
-    ensures { IsSearchOutcome (P.meaning problem.now) nodes (Q.capacity_of queue) (Q.seats_of queue) result }
+    ensures outcome { IsSearchOutcome (P.meaning problem.now) nodes (Q.capacity_of queue) (Q.seats_of queue) result }
+    ensures found { IsFoundByAll (P.meaning problem.now) (Q.seats_of queue) (Q.capacity_of queue) result }
 {
     let Ok(root) = problem.root(alloc) else {
         return Outcome::NoMemory;
@@ -122,8 +127,10 @@ fn work<R: Threads + Wait + Sync, Q: BoundedQueue, P: Problem, G: Gate>(
     requires new { EachAt (λ k w. IsOneOf Q.belongs shared.now w
         × IsNew (Q.seats_of shared.now.queue) (k + 1) (doing Q.known w)) workers.items }
     requires root { (P.meaning problem.now).stands root [] }
-    ensures { IsSearchOutcome (P.meaning problem.now) shared.now.nodes (Q.capacity_of shared.now.queue)
+    ensures outcome { IsSearchOutcome (P.meaning problem.now) shared.now.nodes (Q.capacity_of shared.now.queue)
         (Q.seats_of shared.now.queue) result }
+    ensures found { IsFoundByAll (P.meaning problem.now) (Q.seats_of shared.now.queue)
+        (Q.capacity_of shared.now.queue) result }
 {
     let mut workers = workers;
     run_from_root(

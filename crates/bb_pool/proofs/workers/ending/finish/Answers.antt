@@ -2,9 +2,9 @@ use Rattle.std.proofs.Common.{refl, sym, subst, ◌+◌}
 use Rattle.bb_shared.specs.Controls.{IsStopped}
 use Rattle.bb_pool.specs.Limits.{idle_calls}
 use Rattle.bb_pool.specs.Together.{doing}
-use Rattle.bb_pool.specs.SearchOutcomes.{IsSearchOutcome}
+use Rattle.bb_pool.specs.SearchOutcomes.{IsSearchOutcome, IsFoundByAll}
 use Rattle.bb_pool.proofs.Several.Runs.{stop_read_together}
-use Rattle.bb_pool.proofs.Several.Answers.{stop_answer, best_answer, all_told}
+use Rattle.bb_pool.proofs.Several.Answers.{stop_answer, best_answer, all_told, found_by_all, none_found}
 use Rattle.bb_pool.proofs.workers.ending.finish.Goals as goal
 
 pub returns-in-Some-clause-outcome : goal.returns-in-Some-clause-outcome
@@ -21,3 +21,16 @@ pub returns-in-Ok-clause-outcome : goal.returns-in-Ok-clause-outcome
 returns-in-Ok-clause-outcome g c = let m = g.P.Problem.meaning c.args.problem.now in let sh = c.args.shared.now in let Q = g.Q.SharedQueue in let s = c.in-Ok.ensures.solved in
     subst (IsSearchOutcome m sh.nodes (Q.capacity_of sh.queue) (Q.seats_of sh.queue)) (sym c.of_best.ensures)
     (best_answer m sh.nodes (Q.seats_of sh.queue) (Q.capacity_of sh.queue) _ _ s.ends s.optimal)
+
+pub returns-in-Some-clause-found : goal.returns-in-Some-clause-found
+returns-in-Some-clause-found g c = let m = g.P.Problem.meaning c.args.problem.now in let sh = c.args.shared.now in let Q = g.Q.SharedQueue in
+    subst (IsFoundByAll m (Q.seats_of sh.queue) (Q.capacity_of sh.queue)) (sym c.of_stop.ensures) (none_found m sh.nodes (Q.seats_of sh.queue) (Q.capacity_of sh.queue) c.in-Some.stop)
+
+pub returns-in-Ok-clause-found : goal.returns-in-Ok-clause-found
+returns-in-Ok-clause-found g c = let m = g.P.Problem.meaning c.args.problem.now in let sh = c.args.shared.now in let Q = g.Q.SharedQueue in
+    subst (IsFoundByAll m (Q.seats_of sh.queue) (Q.capacity_of sh.queue)) (sym c.of_best.ensures)
+    (found_by_all m (Q.seats_of sh.queue) (Q.capacity_of sh.queue) (doing Q.known c.go_alone.new.worker) c.go_alone.new.worker.found refl c.in-Ok.ensures.solved)
+
+pub returns-in-Err-clause-found : goal.returns-in-Err-clause-found
+returns-in-Err-clause-found g c = let m = g.P.Problem.meaning c.args.problem.now in let sh = c.args.shared.now in let Q = g.Q.SharedQueue in
+    subst (IsFoundByAll m (Q.seats_of sh.queue) (Q.capacity_of sh.queue)) (sym c.of_stop-in-Err.ensures) (none_found m sh.nodes (Q.seats_of sh.queue) (Q.capacity_of sh.queue) c.in-Err.stop)
