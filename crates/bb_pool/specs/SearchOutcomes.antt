@@ -36,9 +36,9 @@ pub record IsFirstStop {P : Type 0} (told : Told) (nodes : ℕ) (answer : Outcom
   pub set : told.stops ≢ [] → (stop : Stop) × Contains told.stops stop × (answer ≡ outcome_of stop nodes)
 
 -- What all workers did, joined into one, is a search that has found a best plan. The root was put and an entry for it
--- inserted. Each entry that was removed is handled, and each node that was taken is the one that was put under its
--- number. The last call of all asked for an entry below the cost of the plan, and there was none. A leaf that was taken
--- gave the plan, and it is optimal.
+-- inserted. Each entry that was removed is handled. Each node that was taken had its entry removed, and is the one that
+-- was put under its number. A leaf that was taken expands to the plan, and it is optimal. The last call of all asked for
+-- an entry below its cost, and there was none.
 pub record IsSolved {N P : Type 0} (m : Meaning N P) (seats capacity : ℕ) (w : Doing N P) : Type 0 where
   pub rooted : IsRooted m w.known w.stored.puts
   pub working : AtWork m w

@@ -11,7 +11,9 @@ use Rattle.pq_model.specs.declared.passes.Call.{Call}
 use Rattle.pq_model.specs.declared.passes.Lane.{Lane}
 use Rattle.pq_model.specs.declared.passes.Known.{Known}
 use Rattle.pq_model.specs.Passes.{lanes}
+use Rattle.bb_problem.specs.declared.step.Step.TheVariants.{Leaf}
 use Rattle.bb_problem.specs.Meaning.{Meaning}
+use Rattle.bb_problem.specs.Expanding.{IsExpanded}
 use Rattle.bb_shared.specs.declared.store.stored.Numbered.{Numbered}
 use Rattle.bb_shared.specs.declared.store.stored.Stored.{Stored}
 use Rattle.bb_shared.specs.declared.control.told.Told.{Told}
@@ -32,6 +34,14 @@ pub record IsInserted (k : Known) (number key : ℕ) : Type 0 where
   pub id : entry.id ≡ number
   pub key_is : entry.key ≡ key
   pub made : HasMade k (Insert entry) Done
+
+-- an entry for the node of this number was removed
+abbrev pub IsRemoved : Known → ℕ → Type 0
+IsRemoved k number = (e : Entry) × (act : Act) × (e.id ≡ number) × HasMade k act (Got e)
+
+-- and so of each of these nodes
+abbrev pub AreRemoved : {N : Type 0} → Known → List (Numbered N) → Type 0
+AreRemoved {N} k takes = (p : Numbered N) → Contains takes p → IsRemoved k p.number
 
 -- The cost is reached from a child of the node of this name, and the child was put into the store and an entry for it
 -- inserted.
@@ -83,11 +93,11 @@ pub record HasParent {N L : Type 0} (m : Meaning N L) (takes : List (Numbered N)
 abbrev pub IsGrown : {N L : Type 0} → Meaning N L → List (Numbered N) → List (Numbered N) → Type 0
 IsGrown {N} m puts takes = (p : Numbered N) → Contains puts p → m.stands p.node [] ⊎ HasParent m takes p
 
--- a plan that a leaf gave: it is feasible if the leaf's node has a name
+-- a plan that a leaf gave: the leaf's node expands to it, if the node has a name
 pub record IsOfLeaf {N L : Type 0} (m : Meaning N L) (takes : List (Numbered N)) (plan : L) : Type 0 where
   pub from : Numbered N
   pub taken : Contains takes from
-  pub follows : (name : List ℕ) → m.stands from.node name → m.is_feasible plan
+  pub follows : (name : List ℕ) → m.stands from.node name → IsExpanded m name (Leaf plan)
 
 -- the best plan so far is one that a leaf gave, with its cost
 abbrev pub IsFoundBy : {N L : Type 0} → Meaning N L → List (Numbered N) → Option (Found L) → Type 0
@@ -106,6 +116,7 @@ pub record IsWorking {N L : Type 0} (m : Meaning N L) (k : Known) (s : Stored N)
   pub searched : IsSearched m k s.puts s.takes (cut_of c)
   pub grown : IsGrown m s.puts s.takes
   pub below : (p : Numbered N) → Contains s.takes p → p.number < s.front
+  pub removed : AreRemoved k s.takes
   pub found_is : IsFoundBy m s.takes found
   pub told : c.own ≡ cost_so_far found
   pub under : HasNoOver s
@@ -117,6 +128,7 @@ pub record IsHolding {N L : Type 0} (m : Meaning N L) (k : Known) (s : Stored N)
   pub taken : Contains s.takes (numbered e.id node)
   pub grown : IsGrown m s.puts s.takes
   pub below : (p : Numbered N) → Contains s.takes p → p.number < s.front
+  pub removed : AreRemoved k s.takes
   pub found_is : IsFoundBy m s.takes found
   pub told : c.own ≡ cost_so_far found
   pub under : HasNoOver s

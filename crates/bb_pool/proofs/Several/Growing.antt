@@ -28,7 +28,7 @@ module _ {N L : Type 0} (m : Meaning N L) (puts takes : List (Numbered N)) (matc
   ]
 
   pub plan_is_feasible : (plan : L) → IsOfLeaf m takes plan → m.is_feasible plan
-  plan_is_feasible plan is = let at = put_stands (is.from.number + 1) is.from (omega arith) (matched.from_puts is.from is.taken) in is.follows at.0 at.1
+  plan_is_feasible plan is = let at = put_stands (is.from.number + 1) is.from (omega arith) (matched.from_puts is.from is.taken) in (is.follows at.0 at.1).1
 
 pub best_is_optimal : {N L : Type 0} (m : Meaning N L) (seats capacity nodes : ℕ) (k : Known) (s : Stored N) (c : Told) (found : Option (Found L))
     → IsLawful m → IsWorking m k s c found → IsRooted m k s.puts → EndsAt seats capacity (limit_of (cost_so_far found)) k

@@ -13,7 +13,7 @@ use Rattle.pq_model.specs.Passes.{call, lane, lanes, fresh, with_call, joined_wi
 use Rattle.bb_problem.specs.Meaning.{Meaning}
 use Rattle.bb_shared.specs.declared.store.stored.Numbered.{Numbered}
 use Rattle.bb_shared.specs.Costs.{IsLower}
-use Rattle.bb_pool.specs.Working.{HasMade, IsPassedOn, IsHandled, IsSearched, IsRooted}
+use Rattle.bb_pool.specs.Working.{HasMade, AreRemoved, IsPassedOn, IsHandled, IsSearched, IsRooted}
 use Rattle.bb_pool.proofs.Members.{none_in_empty, Contains-here, Contains-there, Contains-cases, Contains-left, Contains-right, Contains-either}
 
 -- the calls of the first are calls of the second
@@ -55,6 +55,10 @@ joined_grows k other act reply (l, has, c, there, a, r) = (l, Contains-left l (l
 
 pub joined_has : (k other : Known) → Grows other (joined_with k other)
 joined_has k other act reply (l, has, c, there, a, r) = (l, Contains-right l (lanes k) (lanes other) has, c, there, a, r)
+
+-- the entries of these nodes were removed, and more calls were made
+pub removed_more : {N : Type 0} (k now : Known) (takes : List (Numbered N)) → Grows k now → AreRemoved k takes → AreRemoved now takes
+removed_more k now takes grows removed p there = let (e, act, id, made) = removed p there in (e, act, id, grows act (Got e) made)
 
 module _ {N L : Type 0} (m : Meaning N L) where
   pub passed_more : (k now : Known) (puts more : List (Numbered N)) (name : List ℕ) (v : ℕ) → Grows k now → Within puts more → IsPassedOn m k puts name v → IsPassedOn m now more name v

@@ -26,7 +26,7 @@ use Rattle.bb_pool.specs.Underway.{cost_so_far}
 use Rattle.bb_pool.specs.Working.{HasParent, IsFoundBy, lesser_found, Waiting, kept_of, IsPassedOn, IsWorking, IsHolding, IsInTurn}
 use Rattle.bb_pool.proofs.Members.{none_in_empty, Contains-here, Contains-there, Contains-cases, Contains-left, Contains-right, Contains-either}
 use Rattle.bb_pool.proofs.Costs.{not_below_itself}
-use Rattle.bb_pool.proofs.Several.Turning.{Within, call_cases, call_grows, call_made, fresh_searched, called, passed_more, handled_more, joined, lower_cut}
+use Rattle.bb_pool.proofs.Several.Turning.{Within, call_cases, call_grows, call_made, joined_grows, joined_has, removed_more, fresh_searched, called, passed_more, handled_more, joined, lower_cut}
 use Rattle.bb_pool.proofs.Several.Expanded.{branched, dropped, leaf_above, kept_from, named}
 use Rattle.bb_pool.proofs.Several.Lesser.{lesser_first, lesser_second, lesser_both, lesser_new, lesser_told}
 
@@ -60,6 +60,7 @@ module _ {N L : Type 0} (m : Meaning N L) where
     searched = fresh_searched m n s.puts s.takes (cut_of c);
     grown = λ p there. absurd (none_in_empty p (subst (λ (l : List (Numbered N)). Contains l p) puts there));
     below = λ p there. absurd (none_in_empty p (subst (λ (l : List (Numbered N)). Contains l p) takes there));
+    removed = λ p there. absurd (none_in_empty p (subst (λ (l : List (Numbered N)). Contains l p) takes there));
     found_is = tt;
     told = own;
     under = λ d there. absurd (none_in_empty d (subst (λ (l : List Draw). Contains l d) draws there));
@@ -71,6 +72,7 @@ module _ {N L : Type 0} (m : Meaning N L) where
     searched = lower_cut m k s.puts s.takes (cut_of c) (cut_of now) low w.searched;
     grown = w.grown;
     below = w.below;
+    removed = w.removed;
     found_is = w.found_is;
     told = own ∙ w.told;
     under = w.under;
@@ -86,6 +88,7 @@ module _ {N L : Type 0} (m : Meaning N L) where
     taken = h.taken;
     grown = h.grown;
     below = h.below;
+    removed = h.removed;
     found_is = h.found_is;
     told = own ∙ h.told;
     under = h.under;
@@ -98,6 +101,7 @@ module _ {N L : Type 0} (m : Meaning N L) where
     searched = called m k place act reply s.puts s.puts s.takes s.takes (cut_of c) (cut_of c) none (λ x there. there) (λ x there. there) (λ v b. b) w.searched;
     grown = w.grown;
     below = w.below;
+    removed = removed_more k (with_call k place act reply) s.takes (call_grows k place act reply) w.removed;
     found_is = w.found_is;
     told = w.told;
     under = w.under;
@@ -116,6 +120,10 @@ module _ {N L : Type 0} (m : Meaning N L) where
     below = λ p there. elim (Contains-either p s.takes (put ∷ []) there) [
       | inl old ↦ (let lt = w.below p old in omega arith)
       | inr new ↦ elim (Contains-cases put p [] new) [ inl same ↦ (let n : e.id ≡ p.number = ap (λ (z : Numbered N). z.number) same in omega arith) | inr nil ↦ absurd (none_in_empty p nil) ]
+    ];
+    removed = λ p there. elim (Contains-either p s.takes (put ∷ []) there) [
+      | inl old ↦ removed_more k (with_call k place act (Got e)) s.takes (call_grows k place act (Got e)) w.removed p old
+      | inr new ↦ elim (Contains-cases put p [] new) [ inl same ↦ (e, act, ap (λ (z : Numbered N). z.number) same, call_made k place act (Got e)) | inr nil ↦ absurd (none_in_empty p nil) ]
     ];
     found_is = found_more s.takes (s.takes ++ put ∷ []) found within w.found_is;
     told = w.told;
@@ -140,6 +148,7 @@ module _ {N L : Type 0} (m : Meaning N L) where
     };
     grown = h.grown;
     below = h.below;
+    removed = h.removed;
     found_is = best_is;
     told = told;
     under = h.under;
@@ -166,7 +175,7 @@ module _ {N L : Type 0} (m : Meaning N L) where
       let cut : IsLower (cut_of told) (cut_of c) = lesser_both (cut_of told) c.own c.read
       (λ v better. lesser_first c.own (Some cost) v (lesser_first told.own told.read v better)) (lesser_second told.own told.read) in
       turn_over k s c told found (Some f) e node h cut
-      (record { from = numbered e.id node; taken = h.taken; follows = λ name st. (expanded name st).1 }, same) new
+      (record { from = numbered e.id node; taken = h.taken; follows = expanded }, same) new
       (λ name v st key r better. absurd (let le = (expanded name st).2 v r in not_below_itself cost v (omega arith) (below_cost v better)))
 
   -- The node is a branch, and the children whose bounds are below the best cost read wait.
@@ -188,6 +197,7 @@ module _ {N L : Type 0} (m : Meaning N L) where
       taken = h.taken;
       grown = h.grown;
       below = λ p there. (let lt = h.below p there in omega arith);
+      removed = h.removed;
       found_is = h.found_is;
       told = h.told;
       under = no_over_more s (draw_of o count true) refl h.under;
@@ -201,6 +211,7 @@ module _ {N L : Type 0} (m : Meaning N L) where
     searched = w.searched;
     grown = w.grown;
     below = λ p there. (let lt = w.below p there in omega arith);
+    removed = w.removed;
     found_is = w.found_is;
     told = w.told;
     under = no_over_more s (draw_of o count true) refl w.under;
@@ -216,6 +227,7 @@ module _ {N L : Type 0} (m : Meaning N L) where
       | inr new ↦ elim (Contains-cases put p [] new) [ inl same ↦ inl (subst (λ (z : Numbered N). m.stands z.node []) same root) | inr nil ↦ absurd (none_in_empty p nil) ]
     ];
     below = w.below;
+    removed = removed_more k (with_call k place (Insert f) Done) s.takes (call_grows k place (Insert f) Done) w.removed;
     found_is = w.found_is;
     told = w.told;
     under = w.under;
@@ -240,6 +252,7 @@ module _ {N L : Type 0} (m : Meaning N L) where
             ]
           ];
           below = h.below;
+          removed = removed_more k now s.takes (call_grows k place (Insert f) Done) h.removed;
           found_is = h.found_is;
           told = h.told;
           under = h.under;
@@ -287,6 +300,10 @@ module _ {N L : Type 0} (m : Meaning N L) where
           | inr b ↦ elim (theirs.grown p b) [ inl root ↦ inl root | inr h ↦ inr (parent_more t.takes all p (λ x. Contains-right x s.takes t.takes) h) ]
         ];
         below = λ p there. elim (Contains-either p s.takes t.takes there) [ inl a ↦ (let lt = mine.below p a in omega arith) | inr b ↦ (let lt = theirs.below p b in omega arith) ];
+        removed = λ p there. elim (Contains-either p s.takes t.takes there) [
+          | inl a ↦ removed_more k (joined_with k other) s.takes (joined_grows k other) mine.removed p a
+          | inr b ↦ removed_more other (joined_with k other) t.takes (joined_has k other) theirs.removed p b
+        ];
         found_is = either_found all found best (found_more s.takes all found (λ x. Contains-left x s.takes t.takes) mine.found_is) (found_more t.takes all best (λ x. Contains-right x s.takes t.takes) theirs.found_is);
         told = (λ i. lesser (mine.told i) (theirs.told i)) ∙ sym (lesser_told found best);
         under = λ x there. elim (Contains-either x s.draws t.draws there) [ inl a ↦ mine.under x a | inr b ↦ theirs.under x b ];
