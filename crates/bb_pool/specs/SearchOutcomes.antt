@@ -30,10 +30,12 @@ IsSearchOutcome m nodes capacity seats outcomes.NoMemory = Unit {0}
 abbrev pub IsSearchStop : {N P : Type 0} → Meaning N P → ℕ → ℕ → ℕ → Stop → Type 0
 IsSearchStop m nodes capacity seats stop = IsSearchOutcome m nodes capacity seats (outcome_of stop nodes)
 
--- The first stop is the answer: the one that these workers know as the first. Where they set stops, it is one of them.
+-- The first stop is the answer: the one that these workers know as the first. Where they set stops, they know the first,
+-- and it is one of theirs.
 pub record IsFirstStop {P : Type 0} (told : Told) (nodes : ℕ) (answer : Outcome P) : Type 0 where
   pub known : (stop : Stop) → told.first ≡ Some stop → answer ≡ outcome_of stop nodes
-  pub set : told.stops ≢ [] → (stop : Stop) × Contains told.stops stop × (answer ≡ outcome_of stop nodes)
+  pub set : told.stops ≢ [] → (stop : Stop) × (told.first ≡ Some stop) × Contains told.stops stop
+      × (answer ≡ outcome_of stop nodes)
 
 -- What all workers did, joined into one, is a search that has found a best plan. The root was put and an entry for it
 -- inserted. Each entry that was removed is handled. Each node that was taken had its entry removed, and is the one that

@@ -113,7 +113,8 @@ pub record HasBegun {N L : Type 0} (m : Meaning N L) (nodes seats capacity n : �
   pub traced : IsTraced m None [] w.stored
 
 -- The workers of these numbers, joined into one. Where none of them has set a stop, they have accounted for all that
--- they removed, and the first of all has put and inserted the root. Each number that they drew is traced.
+-- they removed, and the first of all has put and inserted the root. Each number that they drew is traced. Where one of
+-- them has set a stop, they know the first of all stops.
 pub record IsTogether {N L : Type 0} (m : Meaning N L) (nodes seats capacity idle from to : ℕ)
     (w : Doing N L) : Type 0 where
   pub numbered : IsNumbered seats from to w
@@ -123,3 +124,4 @@ pub record IsTogether {N L : Type 0} (m : Meaning N L) (nodes seats capacity idl
   pub knows : Knows seats capacity w.known
   pub rooted : from ≡ 1 → w.told.stops ≡ [] → IsRooted m w.known w.stored.puts
   pub traced : IsTracedFrom m from w.stored
+  pub first : w.told.first ≡ None → w.told.stops ≡ []

@@ -99,7 +99,7 @@ pub record IsSpent {N P : Type 0} (before now : State N P) : Type 0 where
   pub ended : EndsAt 1 before.queue.capacity (limit_of (cost_so_far before.best)) now.queue.known
   pub best : now.best ≡ before.best
 
--- the best plan so far is one of least cost, and the limits were obeyed
+-- the best plan so far is one of least cost, and the limits leave room for what no search gets around
 abbrev pub IsOver : {N P : Type 0} → Meaning N P → ℕ → ℕ → Option (Found P) → Known → Type 0
 IsOver m nodes capacity None known = ⊥
 IsOver m nodes capacity (Some found) known = IsBest m nodes capacity found.plan found.cost known

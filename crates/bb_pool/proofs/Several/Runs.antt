@@ -1,6 +1,6 @@
 -- What a worker's run keeps of what it is together with, and what two have that are joined.
-use Rattle.std.proofs.Common.{◌≡◌, ◌≢◌, ℕ, ◌+◌, ◌<◌, ◌≤◌, true, List, [], ◌∷◌, ◌++◌, length, length-append, map, Option, None, refl, sym, ap, ◌∙◌, subst, inl, inr, arith}
-use Rattle.std.specs.Prelude.{Contains, nat_lt, if◌then◌else◌}
+use Rattle.std.proofs.Common.{◌≡◌, ◌≢◌, ℕ, ◌+◌, ◌<◌, ◌≤◌, true, List, [], ◌∷◌, ◌++◌, length, length-append, map, Option, Some, None, refl, sym, ap, ◌∙◌, subst, inl, inr, arith}
+use Rattle.std.specs.Prelude.{Contains, ◌⊎◌, nat_lt, if◌then◌else◌}
 use Rattle.std.proofs.lemmas.Bool.{cases_lt}
 use Rattle.std.proofs.lemmas.Bool.Decides.{nat_tests}
 use Rattle.std.proofs.lemmas.List.Elements.{All-weaker, All-contains_itself}
@@ -15,7 +15,7 @@ use Rattle.bb_shared.specs.declared.control.told.Told.{Told}
 use Rattle.bb_shared.specs.declared.control.stop.Stop.{Stop}
 use Rattle.bb_shared.specs.declared.control.stop.Stop.TheVariants as stops
 use Rattle.bb_shared.specs.Stores.{KnowsStore, numbered, draw_of, with_draw, stores_joined, new_stored, new_store_seat}
-use Rattle.bb_shared.specs.Controls.{IsStopSet, IsStopRead, controls_joined, new_told, new_control_seat}
+use Rattle.bb_shared.specs.Controls.{IsStopSet, IsStopRead, or_else, controls_joined, new_told, new_control_seat}
 use Rattle.pq_model.specs.declared.marks.Act.TheVariants.{Insert}
 use Rattle.pq_model.specs.declared.marks.Reply.TheVariants.{Done}
 use Rattle.bb_pool.specs.declared.child.Child.{Child}
@@ -129,6 +129,7 @@ module _ {N L : Type 0} where
     knows = knows;
     rooted = λ first _. rooted_more m v.known w.known v.stored.puts w.stored.puts f.calls f.puts (t.rooted first none);
     traced = traced;
+    first = λ _. f.stops ∙ none;
   }
 
   -- a run has ended, and the stop is set
@@ -160,6 +161,7 @@ module _ {N L : Type 0} where
         knows = knows;
         rooted = λ _ nil. absurd (let e : stop ∷ [] ≡ [] = sym alone ∙ nil in cc);
         traced = (traced.0, traced.1, subst (λ (s : Stored N). IsTraced m traced.0 [] s) (sym stored) traced.2);
+        first = λ nil. absurd (let e : Some set.first ≡ None = sym (ap (λ (z : Told). z.first) set.is) ∙ nil in cc);
       }
 
   -- a worker that has begun, and is not the first
@@ -172,6 +174,7 @@ module _ {N L : Type 0} where
     knows = b.knows;
     rooted = λ first _. absurd (other first);
     traced = (None, λ _. refl, b.traced);
+    first = λ _. b.none;
   }
 
   -- the first, which has put the root
@@ -184,10 +187,20 @@ module _ {N L : Type 0} where
     knows = knows;
     rooted = λ _ _. rooted;
     traced = traced;
+    first = λ _. r.follows.stops ∙ b.none;
   }
 
   pub together_more : {m : Meaning N L} {nodes seats capacity idle more from to : ℕ} {w : Doing N L} → idle ≤ more → IsTogether m nodes seats capacity idle from to w → IsTogether m nodes seats capacity more from to w
-  together_more le t = record { numbered = t.numbered; counted = counted_more le t.counted; causes = t.causes; working = t.working; knows = t.knows; rooted = t.rooted; traced = t.traced }
+  together_more le t = record { numbered = t.numbered; counted = counted_more le t.counted; causes = t.causes; working = t.working; knows = t.knows; rooted = t.rooted; traced = t.traced; first = t.first }
+
+-- a first stop is known, or none is
+known_first : (first : Option Stop) → (first ≡ None) ⊎ ((stop : Stop) × (first ≡ Some stop))
+known_first None = inl refl
+known_first (Some stop) = inr (stop, refl)
+
+none_first : (a b : Option Stop) → or_else a b ≡ None → (a ≡ None) × (b ≡ None)
+none_first None b is = (refl, is)
+none_first (Some stop) b is = absurd (cc)
 
 -- the stop was read
 pub stop_read_together : {N L : Type 0} {m : Meaning N L} {nodes seats capacity idle from to : ℕ} {w x : Doing N L} {r : Option Stop} → IsStopRead w.told r x.told → x.known ≡ w.known → x.stored ≡ w.stored → x.found ≡ w.found → x.made ≡ w.made
@@ -209,6 +222,10 @@ stop_read_together {N} {L} {m} {nodes} {seats} {capacity} {idle} {from} {to} {w}
       knows = t.knows;
       rooted = λ first nil. t.rooted first (sym same_stops ∙ nil);
       traced = t.traced;
+      first = λ nil. elim (known_first w.told.first) [
+        | inl none ↦ same_stops ∙ t.first none
+        | inr knows ↦ absurd (let e : Some knows.0 ≡ None = sym (is.same knows.0 knows.1) ∙ (sym (ap (λ (z : Told). z.first) is.is) ∙ nil) in cc)
+      ];
     })
 
 -- what the numbers of two passes are that are joined
@@ -276,6 +293,8 @@ together_joined {N} {L} {m} {nodes} {seats} {capacity} {idle} {from} {to} {next}
           (rooted_more m v.known (joined_with v.known o.known) v.stored.puts (v.stored.puts ++ o.stored.puts) (joined_grows v.known o.known) (λ p. Contains-left p v.stored.puts o.stored.puts) (a.rooted first both.0)));
       traced = let x = a.traced in let y = b.traced in let none : y.0 ≡ None = y.1 (λ (one : next ≡ 1). omega arith) in
           (x.0, x.1, subst (λ (s : Stored N). IsTraced m x.0 [] s) (sym stored) (traced_joined x.2 (subst (λ (r : Option ℕ). IsTraced m r [] o.stored) none y.2)));
+      first = λ nil. let both = none_first v.told.first o.told.first (sym (ap (λ (z : Told). z.first) told) ∙ nil) in
+          stopped ∙ (λ i. a.first both.0 i ++ b.first both.1 i);
     }
 
 none_below : (x : ℕ) → ◌≡◌ {A = ℕ} 0 (if nat_lt x 0 then 1 else 0)
