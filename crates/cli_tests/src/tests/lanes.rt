@@ -16,30 +16,23 @@ fn two_insertions_meet(rt: HostRuntime) -> Result<(), Fail> {
     Ok(())
 }
 
-// The lanes of a drill run, and at the same time: the first insertion is held in the middle of its work until the other
-// lane's comes there. The search's own first insertion comes later, and before any worker starts.
+// Two lanes of a drill are at work at once, and then two workers of its search: the first insertion is held in the middle
+// of its work until the other lane's comes there, and the second node that is taken until a third is. The search's own
+// first insertion comes before any worker starts.
 #[test]
-fn the_lanes_of_a_drill_meet(rt: HostRuntime) -> Result<(), Fail> {
-    let pair = Pair::new(Point::HeapBusy, 0, 10_000_000);
-    let words = ["drill", "--workers", "2", "--size", "1"];
-    let ran = run_with(&rt, rt.alloc(), &words, "", &pair)?;
-    assert_eq!(rt; ran.status, Status::Ok);
-    assert!(rt; pair.met());
-    assert!(rt; !pair.spent());
-    assert_eq!(rt; ran.output.bytes(), b"marks 4\nleft 0\nvalue 509\n");
-    Ok(())
-}
-
-// Two workers of a drill hold a node each: a search by several runs behind the lanes.
-#[test]
-fn the_workers_of_a_drill_meet(rt: HostRuntime) -> Result<(), Fail> {
-    let pair = Pair::new(Point::WorkerNode, 1, 10_000_000);
-    let words = ["drill", "--workers", "2", "--size", "1"];
-    let ran = run_with(&rt, rt.alloc(), &words, "", &pair)?;
-    assert_eq!(rt; ran.status, Status::Ok);
-    assert!(rt; pair.met());
-    assert!(rt; !pair.spent());
-    assert_eq!(rt; ran.output.bytes(), b"marks 4\nleft 0\nvalue 509\n");
+fn lanes_and_workers_of_a_drill_meet(rt: HostRuntime) -> Result<(), Fail> {
+    for (point, skip) in [(Point::HeapBusy, 0), (Point::WorkerNode, 1)] {
+        let pair = Pair::new(point, skip, 10_000_000);
+        let words = ["drill", "--workers", "2", "--size", "1"];
+        let ran = run_with(&rt, rt.alloc(), &words, "", &pair)?;
+        assert_eq!(rt; ran.status, Status::Ok);
+        assert!(rt; pair.met());
+        assert!(rt; !pair.spent());
+        assert_eq!(rt;
+            ran.output.bytes(),
+            "marks 4\nleft 0\nvalue 509\n".as_bytes()
+        );
+    }
     Ok(())
 }
 

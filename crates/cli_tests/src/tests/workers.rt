@@ -19,7 +19,10 @@ fn two_workers_hold_a_node_each(rt: HostRuntime) -> Result<(), Fail> {
         assert_eq!(rt; ran.status, Status::Ok, "of the {kind}");
         assert!(rt; pair.met(), "at the {kind}");
         assert!(rt; !pair.spent(), "at the {kind}");
-        assert!(rt; ran.output.bytes().starts_with(output.as_bytes()), "of the {kind}");
+        assert!(rt;
+            ran.output.bytes().starts_with(output.as_bytes()),
+            "of the {kind}"
+        );
     }
     Ok(())
 }
