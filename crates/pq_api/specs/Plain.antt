@@ -34,16 +34,15 @@ pub record IsKept (capacity : ℕ) (k : Known) : Type 0 where
   pub witnessed : Witnesses 1 capacity k (marks_of k)
   pub few : length k.calls < call_limit
 
--- the rule of the pass's table: there is one view, and the one word counts its calls
-pub record IsCounted {S : Type 0} (s : State S Known) : Type 0 where
+-- the rule of the pass's table: there is one view
+pub record HasOneView {S : Type 0} (s : State S Known) : Type 0 where
   pub view : Known
   pub alone : s.views ≡ view ∷ []
-  pub counted : s.words ≡ length view.calls ∷ []
 
--- the step of a call finds how many there were before it
-abbrev pub Draws : {S : Type 0} → Act → Reply → Me S Known → ℕ → Me S Known → Type 0
-Draws act reply m found m' = (found ≡ length m.0.calls) × (m'.0 ≡ with_call m.0 found act reply) × (m'.1 ≡ m.1)
+-- the step of a call: the view keeps the call, whose place is how many there were before it
+abbrev pub Draws : {S : Type 0} → Act → Reply → Me S Known → Me S Known → Type 0
+Draws act reply m m' = (m'.0 ≡ with_call m.0 (length m.0.calls) act reply) × (m'.1 ≡ m.1)
 
--- the step of a look finds how many there are
-abbrev pub Looks : {S : Type 0} → Me S Known → ℕ → Me S Known → Type 0
-Looks m found m' = (found ≡ length m.0.calls) × (m'.0 ≡ with_front m.0 found) × (m'.1 ≡ m.1)
+-- the step of a look: the front rises to how many calls there are
+abbrev pub Looks : {S : Type 0} → Me S Known → Me S Known → Type 0
+Looks m m' = (m'.0 ≡ with_front m.0 (length m.0.calls)) × (m'.1 ≡ m.1)

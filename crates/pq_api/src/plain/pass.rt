@@ -32,12 +32,14 @@ use std::sync::Arc;
 pub struct PlainPass {
     held: EntryHeap,
     capacity: u32,
+    // How many calls were made.
+    made: u32,
     table: Arc<PlainTable>,
     seat: PlainSeat,
 }
 
 impl Model for PlainPass {
-    ghost use Rattle.std.specs.Prelude.{◌≡◌, ◌≤◌};
+    ghost use Rattle.std.specs.Prelude.{◌≡◌, ◌≤◌, length};
     ghost use Rattle.std.specs.Arc.{arc_value};
     ghost use Rattle.pq_model.specs.History.{left};
     ghost use Rattle.pq_api.specs.Plain.{Plain, IsKept, marks_of};
@@ -47,8 +49,8 @@ impl Model for PlainPass {
     ghost view = { λ p. record { capacity = p.capacity; table = p.seat.table_id; known = p.seat.me.0 } };
 
     ghost invariant = { λ p. IsKept p.capacity p.seat.me.0 × (p.held.entries ≡ left (marks_of p.seat.me.0)) ×
-        (p.capacity ≤ p.held.room) × (p.seat.table_id ≡ (arc_value p.table).shared.table_id) ×
-        (p.seat.table_id.words ≡ 1) };
+        (p.capacity ≤ p.held.room) × (p.made ≡ length p.seat.me.0.calls) ×
+        (p.seat.table_id ≡ (arc_value p.table).shared.table_id) × (p.seat.table_id.words ≡ 1) };
 }
 
 impl PlainPass {
@@ -67,6 +69,7 @@ impl PlainPass {
         Ok(PlainPass {
             held,
             capacity,
+            made: 0,
             table,
             seat,
         })
@@ -90,6 +93,7 @@ impl PlainPass {
     /// many entries are held as the capacity is.
     ///
     /// Takes O(log n) where n entries are held, and no memory.
+    #[inline]
     pub fn add(&mut self, e: Entry) -> Inserted
         requires { length self.old.known.calls < call_limit - 1 }
         ensures capacity { self.new.capacity ≡ self.old.capacity }
@@ -107,6 +111,7 @@ impl PlainPass {
             let receipt = draw(
                 &self.table,
                 &mut self.seat,
+                &mut self.made,
                 self.capacity,
                 Act::Insert(e),
                 Reply::Done,
@@ -116,6 +121,7 @@ impl PlainPass {
             let receipt = draw(
                 &self.table,
                 &mut self.seat,
+                &mut self.made,
                 self.capacity,
                 Act::Insert(e),
                 Reply::Full,
@@ -126,6 +132,7 @@ impl PlainPass {
 
     /// Takes the least entry, by key and then by id, as `remove` of a shared queue does, and returns always.
     /// `Empty` comes exactly where none is held. Takes O(log n) where n entries are held, and no memory.
+    #[inline]
     pub fn take(&mut self) -> Removed
         requires { length self.old.known.calls < call_limit - 1 }
         ensures capacity { self.new.capacity ≡ self.old.capacity }
@@ -141,6 +148,7 @@ impl PlainPass {
                 let receipt = draw(
                     &self.table,
                     &mut self.seat,
+                    &mut self.made,
                     self.capacity,
                     Act::Remove,
                     Reply::Got(e),
@@ -151,6 +159,7 @@ impl PlainPass {
                 let receipt = draw(
                     &self.table,
                     &mut self.seat,
+                    &mut self.made,
                     self.capacity,
                     Act::Remove,
                     Reply::Empty,
@@ -164,6 +173,7 @@ impl PlainPass {
     /// shared queue does, and returns always. `Empty` comes exactly where none is held, and `Above` exactly
     /// where some are and the least key is the limit or above it. Takes O(log n) where n entries are held, and
     /// no memory; an answer `Above` or `Empty` takes O(1).
+    #[inline]
     pub fn take_below(&mut self, limit: u32) -> Below
         requires few { length self.old.known.calls < call_limit - 1 }
         requires limit { limit ≤ key_limit }
@@ -185,6 +195,7 @@ impl PlainPass {
                 let receipt = draw(
                     &self.table,
                     &mut self.seat,
+                    &mut self.made,
                     self.capacity,
                     act,
                     Reply::Got(e),
@@ -195,6 +206,7 @@ impl PlainPass {
                 let receipt = draw(
                     &self.table,
                     &mut self.seat,
+                    &mut self.made,
                     self.capacity,
                     act,
                     Reply::Above,
@@ -205,6 +217,7 @@ impl PlainPass {
                 let receipt = draw(
                     &self.table,
                     &mut self.seat,
+                    &mut self.made,
                     self.capacity,
                     act,
                     Reply::Empty,
@@ -221,26 +234,27 @@ impl PlainPass {
         ensures knows { (history : List Mark) ×
             Witnesses 1 self.old.capacity self.new.known history × (length history ≡ result) }
     {
-        load(&self.table, &mut self.seat)
+        load(&self.table, &mut self.seat);
+        self.made
     }
 
     // The length of the history and the entries left, or the pass, where there is no memory for their list.
-    pub(crate) fn finish(mut self, alloc: Global) -> Result<Closed, PlainPass>
+    pub(crate) fn finish(self, alloc: Global) -> Result<Closed, PlainPass>
         ensures closed { IfOk result (IsClosed 1 self.capacity self.known) }
         ensures same { IfErr result (λ p. p ≡ self) }
     {
         let Ok(mut left) = Vec::with_capacity(alloc, self.held.len()) else {
             return Err(self);
         };
-        let length = load(&self.table, &mut self.seat);
         let PlainPass {
             held,
             capacity: _,
+            made,
             table: _,
             seat: _,
         } = self;
         held.put_into(&mut left);
-        Ok(Closed { left, length })
+        Ok(Closed { left, length: made })
     }
 
     // Each plain pass has the number 1, so two of them are never apart.
