@@ -7,7 +7,7 @@ use inst_text::MAX_ITEMS;
 use pq_io::NoMemory;
 use std::alloc::Global;
 
-/// How many words hold a decision on each item.
+// How many words hold a decision on each item.
 const WORDS: usize = MAX_ITEMS as usize / 64;
 
 /// The words that are full of decisions: none, one in place, or more on the heap, of which the first are in use.

@@ -2,7 +2,7 @@
 
 ghost use Rattle.std.specs.Prelude.{ℕ, List, IfOk};
 ghost use Rattle.inst_text.specs.Knapsack.{IsInstance};
-ghost use Rattle.bb_problem.specs.Expanding.{IsExpanded, IsInRange, IfLeaf};
+ghost use Rattle.bb_problem.specs.Expanding.{IsExpanded, IsInRange, IfLeaf, step_of};
 ghost use Rattle.bb_knap.specs.Plans.{cost_of};
 ghost use Rattle.bb_knap.specs.TreeLawsHold.Tree.{lawful};
 ghost use Rattle.bb_knap.specs.Branching.{Stands, IsPlanOf, meaning_of};
@@ -38,8 +38,7 @@ impl Problem for Knapsack {
         self.bound_at(depth, node.room(), node.value())
     }
 
-    /// The plan of a node that decides on all items, else the child that takes the next item, where it fits, and
-    /// the child that leaves it. A child takes time to copy its decisions, a plan O(n log n).
+    /// As `expand_into`, with the children in a list of their own.
     fn expand(&self, alloc: Global, node: KnapNode) -> Result<Step<Choice, KnapNode>, NoMemory>
         ensures range { IfOk result (IsInRange (cost_of self.now)) }
         ensures expanded { IfOk result (λ step. (name : List ℕ) → Stands self.now node name →
@@ -48,19 +47,42 @@ impl Problem for Knapsack {
         ensures leaf { IfOk result (λ step. (name : List ℕ) → Stands self.now node name →
             IfLeaf (IsPlanOf self.now name) step) }
     {
+        let mut children = Vec::new(alloc);
+        match self.expand_into(alloc, node, &mut children)? {
+            Some(plan) => Ok(Step::Leaf(plan)),
+            None => Ok(Step::Branch(children)),
+        }
+    }
+
+    /// The plan of a node that decides on all items, else the child that takes the next item, where it fits, and
+    /// the child that leaves it. A child takes time to copy its decisions, a plan O(n log n).
+    fn expand_into(
+        &self,
+        alloc: Global,
+        node: KnapNode,
+        children: &mut Vec<KnapNode>,
+    ) -> Result<Option<Choice>, NoMemory>
+        ensures range { IfOk result (λ leaf. IsInRange (cost_of self.now) (step_of leaf children.new)) }
+        ensures expanded { IfOk result (λ leaf. (name : List ℕ) → Stands self.now node name →
+            IsExpanded (meaning_of self.now) name (step_of leaf children.new)) }
+        // A leaf has just the items that its decisions take.
+        ensures leaf { IfOk result (λ leaf. (name : List ℕ) → Stands self.now node name →
+            IfLeaf (IsPlanOf self.now name) (step_of leaf children.new)) }
+    {
+        children.clear();
         let items = self.items();
         let order = self.order();
         let depth = node.depth();
         if order.len() <= depth {
-            return Ok(Step::Leaf(plan(alloc, self, &node)?));
+            return Ok(Some(plan(alloc, self, &node)?));
         }
         let item = numbered_item(items, order[depth]);
-        let mut children = Vec::with_capacity(alloc, 2)?;
+        children.reserve(2)?;
         if u64::from(item.weight) <= node.room() {
             children.push_reserved(node.taking(alloc, item)?);
         }
         children.push_reserved(node.leaving(alloc)?);
-        Ok(Step::Branch(children))
+        Ok(None)
     }
 
     /// The sum of the values that the choice leaves behind. One pass over the choice.

@@ -28,9 +28,9 @@ pub record EndsWithNone (limit : ℕ) (history : List Mark) : Type 0 where
   pub is : history ≡ earlier ++ mark seat (RemoveBelow limit) reply ∷ []
   pub none : IsNoneBelow reply
 
--- What is known of the end once all passes of a queue are joined into one: there is a legal history of their calls and of
--- no others. Its last mark asked for an entry below the cost, and there was none. At this mark the multiset is empty, or
--- its least key is at least the cost.
+-- What is known of the end once all passes of a queue are joined into one: there is a legal history of their calls and
+-- of no others. Its last mark asked for an entry below the cost, and there was none. At this mark the multiset is
+-- empty, or its least key is at least the cost.
 pub record EndsAt (seats capacity cost : ℕ) (known : Known) : Type 0 where
   pub whole : IsWhole seats known
   pub history : List Mark

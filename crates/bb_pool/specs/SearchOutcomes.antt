@@ -30,8 +30,8 @@ IsSearchOutcome m nodes capacity seats outcomes.NoMemory = Unit {0}
 abbrev pub IsSearchStop : {N P : Type 0} → Meaning N P → ℕ → ℕ → ℕ → Stop → Type 0
 IsSearchStop m nodes capacity seats stop = IsSearchOutcome m nodes capacity seats (outcome_of stop nodes)
 
--- The first stop is the answer: the one that these workers know as the first. Where they set stops, they know the first,
--- and it is one of theirs.
+-- The first stop is the answer: the one that these workers know as the first. Where they set stops, they know the
+-- first, and it is one of theirs.
 pub record IsFirstStop {P : Type 0} (told : Told) (nodes : ℕ) (answer : Outcome P) : Type 0 where
   pub known : (stop : Stop) → told.first ≡ Some stop → answer ≡ outcome_of stop nodes
   pub set : told.stops ≢ [] → (stop : Stop) × (told.first ≡ Some stop) × Contains told.stops stop
@@ -39,8 +39,8 @@ pub record IsFirstStop {P : Type 0} (told : Told) (nodes : ℕ) (answer : Outcom
 
 -- What all workers did, joined into one, is a search that has found a best plan. The root was put and an entry for it
 -- inserted. Each entry that was removed is handled. Each node that was taken had its entry removed, and is the one that
--- was put under its number. A leaf that was taken expands to the plan, and it is optimal. The last call of all asked for
--- an entry below its cost, and there was none.
+-- was put under its number. A leaf that was taken expands to the plan, and it is optimal. The last call of all asked
+-- for an entry below its cost, and there was none.
 pub record IsSolved {N P : Type 0} (m : Meaning N P) (seats capacity : ℕ) (w : Doing N P) : Type 0 where
   pub rooted : IsRooted m w.known w.stored.puts
   pub working : AtWork m w

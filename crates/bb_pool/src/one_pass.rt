@@ -38,10 +38,12 @@ pub(crate) trait OnePass: Drop {
 impl OnePass for PlainPass {
     ghost seat = { λ p. record { capacity = p.capacity; known = p.known } };
 
+    #[inline]
     fn add(&mut self, e: Entry) -> Inserted {
         PlainPass::add(self, e)
     }
 
+    #[inline]
     fn take_below(&mut self, limit: u32) -> Below {
         PlainPass::take_below(self, limit)
     }

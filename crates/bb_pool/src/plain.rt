@@ -14,7 +14,7 @@ use crate::one_pass::OnePass;
 use crate::outcome::{Outcome, of_best, of_stop};
 use crate::state::Search;
 use crate::store::Store;
-use bb_problem::{Problem, Step, needed_is_at_most_tree_size};
+use bb_problem::{Problem, needed_is_at_most_tree_size};
 use bb_shared::Stop;
 use pq_api::PlainPass;
 use pq_model::left_rises;
@@ -117,15 +117,23 @@ fn go_on<C: OnePass, P: Problem>(
         search.new.best (C.seat search.new.pass).known) }
     ensures stops { IfErr result (IsStop (P.meaning problem.now) nodes (C.seat search.old.pass).capacity) }
 {
-    while let ControlFlow::Continue(()) = take_turn(alloc, problem, search, nodes)? {}
+    let mut children = Vec::new(alloc);
+    while let ControlFlow::Continue(()) = take_turn(
+        alloc,
+        problem,
+        search,
+        &mut children,
+        nodes,
+    )? {}
     Ok(())
 }
 
-// One turn: the least entry's node is expanded to a plan or to children.
+// One turn: the least entry's node is expanded to a plan or to children. Of the list only its memory is used.
 fn take_turn<C: OnePass, P: Problem>(
     alloc: Global,
     problem: &P,
     search: &mut Search<C, P::Node, P::Plan>,
+    children: &mut Vec<P::Node>,
     nodes: u32,
 ) -> Result<ControlFlow<()>, Stop>
     requires nodes { nodes ≤ max_nodes }
@@ -139,14 +147,14 @@ fn take_turn<C: OnePass, P: Problem>(
     let Some(child) = search.take() else {
         return Ok(ControlFlow::Break(()));
     };
-    match problem.expand(alloc, child.node)? {
-        Step::Leaf(plan) => {
+    match problem.expand_into(alloc, child.node, children)? {
+        Some(plan) => {
             let cost = problem.cost(&plan);
             if is_below(cost, search.best_cost()) {
                 search.best = Some(Found { plan, cost });
             }
         }
-        Step::Branch(children) => branch(problem, search, children, nodes)?,
+        None => branch(problem, search, children, nodes)?,
     }
     Ok(ControlFlow::Continue(()))
 }
@@ -155,13 +163,13 @@ fn take_turn<C: OnePass, P: Problem>(
 fn branch<C: OnePass, P: Problem>(
     problem: &P,
     search: &mut Search<C, P::Node, P::Plan>,
-    children: Vec<P::Node>,
+    children: &mut Vec<P::Node>,
     nodes: u32,
 ) -> Result<(), Stop>
     requires nodes { nodes ≤ max_nodes }
-    requires few { length children.items ≤ max_children }
+    requires few { length children.old.items ≤ max_children }
     requires underway { let state = state_of C.seat search.old in
-        (waiting : List (List ℕ)) × StandAt (P.meaning problem.now).stands children.items waiting
+        (waiting : List (List ℕ)) × StandAt (P.meaning problem.now).stands children.old.items waiting
         × IsUnderway (P.meaning problem.now) nodes state.queue.capacity state waiting }
     ensures calls { IfOk result (λ _.
         length (C.seat search.old.pass).known.calls ≤ length (C.seat search.new.pass).known.calls) }
@@ -170,13 +178,15 @@ fn branch<C: OnePass, P: Problem>(
     ensures stops { IfErr result (IsStop (P.meaning problem.now) nodes (C.seat search.old.pass).capacity) }
 {
     let best = search.best_cost();
-    let kept = bounds(problem, &children, best, &mut search.keys)?;
+    let kept = bounds(problem, children, best, &mut search.keys)?;
     let asked = search.store.len() as u64 + kept as u64;
     if asked > u64::from(nodes) {
         return Err(Stop::NodeLimit { asked });
     }
+    // They are taken from the end, in order.
+    children.reverse();
     let mut place = 0;
-    for node in children {
+    while let Some(node) = children.pop() {
         let key = search.keys[place];
         place += 1;
         if !is_below(key, best) {

@@ -129,3 +129,14 @@ first_key keys place d lt = drop_more keys place d lt
 -- a node is left, so a key is left
 pub some_key : {N P : Type 0} {m : Meaning N P} {nodes capacity made : ℕ} {best : Option ℕ} {search : State N P} (rest : List N) (keys : List ℕ) (place : ℕ) → IsPutting m nodes capacity made best search rest (drop place keys) → 1 ≤ length rest → place < length keys
 some_key {m} rest keys place s some = let same = bounds_length m rest (drop place keys) s.bounds in let left = length-drop place keys in omega arith
+
+none_wait : {N : Type 0} (stands : N → List ℕ → Type 0) (names : List (List ℕ)) → StandAt stands [] names → names ≡ []
+none_wait stands [] stand = refl
+none_wait stands (name ∷ names) stand = absurd stand
+
+-- all children are put
+pub all_put : {N P : Type 0} {m : Meaning N P} {nodes capacity made : ℕ} {best : Option ℕ} {search : State N P} {rest : List N} {keys : List ℕ}
+    → rest ≡ [] → IsPutting m nodes capacity made best search rest keys → IsUnderway m nodes capacity search []
+all_put {m} {nodes} {capacity} {best} {search} none p =
+    let names = none_wait m.stands p.names (subst (λ xs. StandAt m.stands xs p.names) none p.stand) in
+    subst (λ (waiting : List (List ℕ)). IsUnderway m nodes capacity search (better_names m.tree best waiting)) names p.underway

@@ -27,7 +27,8 @@ pub(crate) fn join_all<Q: BoundedQueue, P: Problem>(
 ) -> Worker<Q::Pass, P::Node, P::Plan>
     requires some { 1 ≤ length workers.items }
     requires ended { EachAt (λ k w.
-        HasEnded Q.belongs Q.known Q.seats_of Q.capacity_of (P.meaning problem.now) shared.now (k + 1) w) workers.items }
+        HasEnded Q.belongs Q.known Q.seats_of Q.capacity_of (P.meaning problem.now) shared.now (k + 1) w)
+        workers.items }
     ensures own { IsOneOf Q.belongs shared.now result }
     ensures together { IsTogether (P.meaning problem.now) shared.now.nodes (Q.seats_of shared.now.queue)
         (Q.capacity_of shared.now.queue) (idle_calls + 1) 1 (length workers.items) (doing Q.known result) }

@@ -88,7 +88,8 @@ fn take_node<R: Wait + Sync, Q: BoundedQueue, P: Problem, G: Gate>(
     requires working { AtWork (P.meaning problem.now) (doing Q.known worker.old) }
     ensures own { IsOneOf Q.belongs shared.now worker.new }
     ensures knows { Knows (Q.seats_of shared.now.queue) (Q.capacity_of shared.now.queue) (Q.known worker.new.pass) }
-    ensures held { IfSome result (λ child. GoesOn shared.now.nodes 0 (doing Q.known worker.old) (doing Q.known worker.new)
+    ensures held { IfSome result (λ child.
+        GoesOn shared.now.nodes 0 (doing Q.known worker.old) (doing Q.known worker.new)
         × HoldsNode (P.meaning problem.now) (doing Q.known worker.new) child) }
     ensures none { IfNone result (GoesOn shared.now.nodes 1 (doing Q.known worker.old) (doing Q.known worker.new)
         × AtWork (P.meaning problem.now) (doing Q.known worker.new)

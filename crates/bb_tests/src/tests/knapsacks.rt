@@ -61,10 +61,15 @@ fn orders_items_and_bounds_them(rt: HostRuntime) -> Result<(), Fail> {
 }
 
 // the bounds of a node's children, none of a leaf
-fn bounds(alloc: Global, knapsack: &Knapsack, node: KnapNode) -> Result<Vec<u32>, NoMemory> {
+fn bounds(
+    alloc: Global,
+    knapsack: &Knapsack,
+    node: KnapNode,
+    children: &mut Vec<KnapNode>,
+) -> Result<Vec<u32>, NoMemory> {
     let mut bounds = Vec::new(alloc);
-    if let Step::Branch(nodes) = knapsack.expand(alloc, node)? {
-        for node in &nodes {
+    if knapsack.expand_into(alloc, node, children)?.is_none() {
+        for node in children.as_slice() {
             bounds.push(knapsack.bound(node))?;
         }
     }
@@ -77,7 +82,17 @@ fn branches_and_walks(rt: HostRuntime) -> Result<(), Fail> {
     let three = knapsack(alloc, THREE)?;
     let root = three.root(alloc)?;
     assert_eq!(rt; three.bound(&root), 5);
-    assert_eq!(rt; bounds(alloc, &three, root)?.as_slice(), [5, 6].as_slice());
+    let mut children = Vec::new(alloc);
+    assert_eq!(rt;
+        bounds(alloc, &three, root, &mut children)?.as_slice(),
+        [5, 6].as_slice()
+    );
+    // The list holds children still: they go.
+    let root = three.root(alloc)?;
+    assert_eq!(rt;
+        bounds(alloc, &three, root, &mut children)?.as_slice(),
+        [5, 6].as_slice()
+    );
     let mut walk = KnapWalk::new(alloc, &three)?;
     assert_eq!(rt; walk.bound(), 5);
     assert!(rt; !walk.is_leaf());
