@@ -15,7 +15,8 @@ use Rattle.pq_cli.specs.declared.command.Kind.TheVariants.{Knapsack, Shop}
 use Rattle.pq_cli.specs.declared.command.Which.{Which}
 use Rattle.pq_cli.specs.declared.command.Which.TheVariants.{Plain, Hunt}
 use Rattle.pq_cli.specs.declared.command.Command.{Command}
-use Rattle.pq_cli.specs.declared.command.Command.TheVariants.{Solve, Bound, Check, Prove, Verify, Trace, Audit, Make, Drill}
+use Rattle.pq_cli.specs.declared.command.Command.TheVariants.{Solve, Bound, Check, Prove, Verify}
+use Rattle.pq_cli.specs.declared.command.Command.TheVariants.{Trace, Audit, Make, Drill}
 use Rattle.pq_cli.specs.declared.commands.task.Task.{Task}
 use Rattle.pq_cli.specs.declared.commands.task.Task.TheVariants as tasks
 use Rattle.pq_cli.specs.declared.limits.Limits.{Limits}
@@ -124,14 +125,26 @@ trace_from said = do
 unfoldable pub audit_from : Settings → Option Command
 audit_from said = if is_none said.kind && is_silent said then Some Audit else None
 
+-- how many items are made where it is not said
+abbrev pub default_items : ℕ
+default_items = 100
+
+-- how many jobs and machines are made where it is not said
+abbrev pub default_jobs : ℕ
+default_jobs = 6
+
+-- the seed of what is made where it is not said
+abbrev pub default_seed : ℕ
+default_seed = 0
+
 -- how many items of a knapsack are made, or how many jobs and machines of a shop
 abbrev pub size_for : Kind → Option ℕ → Option ℕ
-size_for Knapsack said = within 0 max_items (unwrap_or said 100)
-size_for Shop said = within 1 max_made_shop (unwrap_or said 6)
+size_for Knapsack said = within 0 max_items (unwrap_or said default_items)
+size_for Shop said = within 1 max_made_shop (unwrap_or said default_jobs)
 
 -- the seed of what is made
 abbrev pub seed_for : Option ℕ → Option ℕ
-seed_for said = within 0 option_limit (unwrap_or said 0)
+seed_for said = within 0 option_limit (unwrap_or said default_seed)
 
 -- a problem, a seed and a size
 unfoldable pub make_from : Settings → Option Command
@@ -146,9 +159,13 @@ abbrev pub of_several : Which → Option Which
 of_several Plain = None
 of_several Hunt = Some Hunt
 
+-- how many entries each lane of a drill inserts where it is not said
+abbrev pub default_inserts : ℕ
+default_inserts = 1000
+
 -- how many entries each lane of a drill inserts
 abbrev pub inserts_for : Option ℕ → Option ℕ
-inserts_for said = within 0 max_made_inserts (unwrap_or said 1000)
+inserts_for said = within 0 max_made_inserts (unwrap_or said default_inserts)
 
 -- a queue of several callers, workers, a seed and a size
 unfoldable pub drill_from : Settings → Option Command

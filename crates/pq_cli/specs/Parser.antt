@@ -3,7 +3,8 @@ use Rattle.std.specs.Prelude.{Bool, List, codes, Option, Some, None, true, Resul
 use Rattle.std.specs.List.{list_any}
 use Rattle.std.specs.Option.{ok_or}
 use Rattle.std.specs.Str.{bytes_eq}
-use Rattle.clap.specs.Words.{App, Row, Rule, Text, first_of, kind_of as error_kind_of, new_app, new_rule, subcommand_rows_of, with_rule, with_subcommand}
+use Rattle.clap.specs.Words.{App, Row, Rule, Text, first_of, kind_of as error_kind_of, new_app, new_rule}
+use Rattle.clap.specs.Words.{subcommand_rows_of, with_rule, with_subcommand}
 use Rattle.clap.specs.Simple.{on_top}
 use Rattle.clap.specs.declared.builder.action.ArgAction.TheVariants.{Set}
 use Rattle.clap.specs.declared.error.Error.{Error}
@@ -30,7 +31,8 @@ abbrev pub worded_app : Text → App
 worded_app name =
     with_rule (with_rule (with_rule (with_rule (with_rule (with_rule (with_rule (with_rule (new_app name)
     kind_rule) (option_rule (codes "branching"))) (option_rule (codes "queue"))) (option_rule (codes "workers")))
-    (option_rule (codes "nodes"))) (option_rule (codes "capacity"))) (option_rule (codes "seed"))) (option_rule (codes "size"))
+    (option_rule (codes "nodes"))) (option_rule (codes "capacity"))) (option_rule (codes "seed")))
+    (option_rule (codes "size"))
 
 -- with one more command
 abbrev pub with_command : App → Text → App

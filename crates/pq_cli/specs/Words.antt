@@ -56,54 +56,39 @@ option_limit = 4294967295
 abbrev pub number_in : List ℕ → Option ℕ
 number_in word = ok_of (number_of 0 option_limit word)
 
+-- The settings with what the word says; none where it says nothing, or where that was said before. `read` says how the
+-- word is read, `said` what was said before, and `with` gives the settings with something else in its place.
+abbrev pub set_once : {A : Type 0} → (List ℕ → Option A) → Option A → (Option A → Settings) → List ℕ → Option Settings
+set_once read said with word = do
+  new ← read word
+  now ← once said new
+  Some (with now)
+
 -- the settings with this problem
 unfoldable pub with_kind : Settings → List ℕ → Option Settings
-with_kind said word = do
-  kind ← kind_of word
-  kinds ← once said.kind kind
-  Some (record said { kind = kinds })
+with_kind said word = set_once kind_of said.kind (λ kind. record said { kind = kind }) word
 
 unfoldable pub with_branching : Settings → List ℕ → Option Settings
-with_branching said value = do
-  branching ← branching_of value
-  branchings ← once said.branching branching
-  Some (record said { branching = branchings })
+with_branching said value =
+    set_once branching_of said.branching (λ branching. record said { branching = branching }) value
 
 unfoldable pub with_queue : Settings → List ℕ → Option Settings
-with_queue said value = do
-  queue ← which_of value
-  queues ← once said.queue queue
-  Some (record said { queue = queues })
+with_queue said value = set_once which_of said.queue (λ queue. record said { queue = queue }) value
 
 unfoldable pub with_workers : Settings → List ℕ → Option Settings
-with_workers said value = do
-  number ← number_in value
-  numbers ← once said.workers number
-  Some (record said { workers = numbers })
+with_workers said value = set_once number_in said.workers (λ number. record said { workers = number }) value
 
 unfoldable pub with_nodes : Settings → List ℕ → Option Settings
-with_nodes said value = do
-  number ← number_in value
-  numbers ← once said.nodes number
-  Some (record said { nodes = numbers })
+with_nodes said value = set_once number_in said.nodes (λ number. record said { nodes = number }) value
 
 unfoldable pub with_capacity : Settings → List ℕ → Option Settings
-with_capacity said value = do
-  number ← number_in value
-  numbers ← once said.capacity number
-  Some (record said { capacity = numbers })
+with_capacity said value = set_once number_in said.capacity (λ number. record said { capacity = number }) value
 
 unfoldable pub with_seed : Settings → List ℕ → Option Settings
-with_seed said value = do
-  number ← number_in value
-  numbers ← once said.seed number
-  Some (record said { seed = numbers })
+with_seed said value = set_once number_in said.seed (λ number. record said { seed = number }) value
 
 unfoldable pub with_size : Settings → List ℕ → Option Settings
-with_size said value = do
-  number ← number_in value
-  numbers ← once said.size number
-  Some (record said { size = numbers })
+with_size said value = set_once number_in said.size (λ number. record said { size = number }) value
 
 -- the settings with this option
 unfoldable pub with_option : Settings → List ℕ → List ℕ → Option Settings

@@ -94,7 +94,8 @@ fn reads_input(command: Command) -> bool
 // All that the input holds, where the command reads one. Else the input is left alone.
 #[tactic(auto, using(crate::proofs::Explained::duty_input_stops))]
 fn input_of<I: Source>(alloc: Global, command: Command, input: &mut I) -> Result<Vec<u8>, Refusal>
-    ensures read { IfOk result (λ bytes. IsInput (duty_of command) (change I.left I.faults input.old input.new) bytes.items) }
+    ensures read { IfOk result (λ bytes.
+        IsInput (duty_of command) (change I.left I.faults input.old input.new) bytes.items) }
     ensures stops { IfErr result (Stops (duty_of command) (change I.left I.faults input.old input.new)) }
 {
     if !reads_input(command) {

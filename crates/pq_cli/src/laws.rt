@@ -28,7 +28,8 @@ pub fn traces_are_one()
         IsTraceOf capacity (acts ∷ []) h → IsTraceOf capacity (acts ∷ []) k → h ≡ k }
 {}
 
-/// Law: the value that a drill tells of its knapsack is that of a feasible choice, and no feasible choice is worth more.
+/// Law: the value that a drill tells of its knapsack is that of a feasible choice, and no feasible choice is worth
+/// more.
 pub fn greatest_value_is_best()
     ensures attained { (i : Instance) → (choice : List ℕ) × IsFeasible i choice
         × (value_of i.items choice ≡ greatest_value i) }

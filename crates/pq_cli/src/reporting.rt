@@ -10,7 +10,7 @@ use arrayvec::ArrayString;
 use itoa::Buffer;
 use pq_io::{BadInput, Cause, Sink, put_all};
 
-/// More than the longest line has.
+// More than the longest line has.
 const LINE_ROOM: usize = 64;
 
 /// Writes the line of the status, where it has one. Where that fails, the status is `WriteFault` from then on.

@@ -30,10 +30,10 @@ use std::alloc::Global;
 use std::sync::Wait;
 use std::thread::Threads;
 
-/// How many items the knapsack of a drill has.
+// How many items the knapsack of a drill has.
 const ITEMS: u32 = 12;
 
-/// How many nodes its search may make; the tree of so many items has fewer.
+// How many nodes its search may make; the tree of so many items has fewer.
 const NODES: u32 = 16_000;
 
 // What the lanes of a drill came to.
@@ -45,8 +45,8 @@ struct Ended {
     left: u32,
 }
 
-/// What lanes on a queue of this kind came to, and then the value of a best choice that a search over another one found.
-/// No input is read.
+/// What lanes on a queue of this kind came to, and then the value of a best choice that a search over another one
+/// found. No input is read.
 ///
 /// There are as many lanes as workers. Each inserts so many entries, and then removes as many.
 pub fn drill<Rt: Threads + Wait + Sync, Q: BoundedQueue>(

@@ -17,25 +17,25 @@ use bb_pool::MAX_NODES;
 use inst_text::{MAX_ITEMS, MAX_MADE_INSERTS, MAX_MADE_SHOP};
 use pq_model::{MAX_CAPACITY, MAX_SEATS};
 
-/// How many nodes a search may make where it is not said.
+// How many nodes a search may make where it is not said.
 const DEFAULT_NODES: u64 = 100_000;
 
-/// How many entries a traced queue takes where it is not said.
+// How many entries a traced queue takes where it is not said.
 const DEFAULT_CAPACITY: u64 = 1_024;
 
-/// The queue where none is said.
+// The queue where none is said.
 const DEFAULT_QUEUE: Which = Which::Hunt;
 
-/// The seed of what is made where it is not said.
+// The seed of what is made where it is not said.
 const DEFAULT_SEED: u64 = 0;
 
-/// How many items are made where it is not said.
+// How many items are made where it is not said.
 const DEFAULT_ITEMS: u64 = 100;
 
-/// How many jobs and machines are made where it is not said.
+// How many jobs and machines are made where it is not said.
 const DEFAULT_JOBS: u64 = 6;
 
-/// How many entries each lane of a drill inserts where it is not said.
+// How many entries each lane of a drill inserts where it is not said.
 const DEFAULT_INSERTS: u64 = 1_000;
 
 /// The command of this name with these settings.
@@ -184,6 +184,7 @@ fn kind_alone(said: Settings) -> Option<Kind>
     if is_silent(&said) { Some(kind) } else { None }
 }
 
+// A problem, and how it is branched.
 #[tactic(auto, unfolding(crate::specs::CommandWords::bound_from))]
 fn bound_from(said: Settings) -> Option<Command>
     ensures exact { result ≡ bound_from said }
@@ -198,6 +199,7 @@ fn bound_from(said: Settings) -> Option<Command>
     }
 }
 
+// A problem, and no option.
 #[tactic(auto, unfolding(crate::specs::CommandWords::check_from))]
 fn check_from(said: Settings) -> Option<Command>
     ensures exact { result ≡ check_from said }
@@ -207,6 +209,7 @@ fn check_from(said: Settings) -> Option<Command>
     Some(Command::Check { kind })
 }
 
+// A knapsack, and what a search on the queue may have.
 fn prove_from(said: Settings) -> Option<Command>
     ensures exact { result ≡ prove_from said }
     ensures limits { IfSome result HasLimits }
@@ -229,6 +232,7 @@ fn prove_from(said: Settings) -> Option<Command>
     }
 }
 
+// A knapsack, and no option.
 #[tactic(auto, unfolding(crate::specs::CommandWords::verify_from))]
 fn verify_from(said: Settings) -> Option<Command>
     ensures exact { result ≡ verify_from said }
@@ -240,6 +244,7 @@ fn verify_from(said: Settings) -> Option<Command>
     }
 }
 
+// A queue and a capacity.
 #[tactic(auto, unfolding(crate::specs::CommandWords::trace_from))]
 fn trace_from(said: Settings) -> Option<Command>
     ensures exact { result ≡ trace_from said }
@@ -263,6 +268,7 @@ fn trace_from(said: Settings) -> Option<Command>
     }
 }
 
+// No problem, and no option.
 #[tactic(auto, unfolding(crate::specs::CommandWords::audit_from))]
 fn audit_from(said: Settings) -> Option<Command>
     ensures exact { result ≡ audit_from said }
@@ -294,6 +300,7 @@ fn seed_for(said: Option<u64>) -> Option<u64>
     within(0, u64::from(u32::MAX), said.unwrap_or(DEFAULT_SEED))
 }
 
+// A problem, a seed and a size.
 #[tactic(auto, unfolding(crate::specs::CommandWords::make_from))]
 fn make_from(said: Settings) -> Option<Command>
     ensures exact { result ≡ make_from said }
@@ -336,6 +343,7 @@ fn inserts_for(said: Option<u64>) -> Option<u64>
     )
 }
 
+// A queue of several callers, workers, a seed and a size.
 #[tactic(auto, unfolding(crate::specs::CommandWords::drill_from))]
 fn drill_from(said: Settings) -> Option<Command>
     ensures exact { result ≡ drill_from said }

@@ -26,8 +26,7 @@ pub fn settings_in(matches: &ArgMatches) -> Option<Settings>
     })
 }
 
-// The text of an id.
-
+// What was said for this id, if anything.
 fn text_at<'a>(matches: &ArgMatches<'a>, id: &str) -> Option<&'a str>
     ensures { option_map (λ t. t.now) result ≡ first_of id.now (rows_of (found_of matches.now)) }
 {
