@@ -3,6 +3,7 @@ pub mod Sums
 pub mod Counts
 pub mod StoreSeats
 pub mod StoreSteps
+pub mod StoreDeals
 pub mod Costs
 pub mod ControlSteps
 pub mod Draws

@@ -1,2 +1,4 @@
+//! The store and the control by themselves.
+
 mod control;
 mod store;

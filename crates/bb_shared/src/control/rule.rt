@@ -8,13 +8,17 @@ use super::told::Told;
 use atomic_table::{Join, Play, Seat, Split, Table, TableRule};
 use std::alloc::Global;
 
-// The words of a control, 128 bytes apart, so that they share no cache line.
+/// The open word: what was opened less what was closed, modulo 2^64. The words of a control stand 128 bytes apart, so
+/// that they share no cache line.
 pub const OPEN: usize = 0;
 
+/// The best word: 0 where no cost was told yet, else the cost limit less the least cost that was told.
 pub const BEST: usize = 16;
 
+/// The stop word: 0 where no stop was set yet, else the first stop that was set.
 pub const STOP: usize = 32;
 
+/// How many words a control has.
 pub const WORDS: usize = 33;
 
 /// The rule of a control's table. Its key is the number of seats.
@@ -26,11 +30,13 @@ impl TableRule<(), Told, u32> for ControlRule {
     ghost first = { λ seats. teller seats seats };
 }
 
+/// The table of a control. It has words alone.
 pub type ControlTable = Table<(), Told, u32, ControlRule, Global>;
 
+/// A seat of that table.
 pub type ControlHand = Seat<(), Told>;
 
-// One part goes to a new seat.
+/// One part goes to a new seat.
 pub struct Deal;
 
 impl Split<Told> for Deal {
@@ -39,6 +45,7 @@ impl Split<Told> for Deal {
     ghost right = { got_one };
 }
 
+/// A seat is joined into another, which has then told, read and set what both did.
 pub struct Together;
 
 impl Join<Told> for Together {
@@ -47,48 +54,56 @@ impl Join<Told> for Together {
     ghost spent = { spent_told };
 }
 
+/// A step that adds to the open word.
 pub struct OpenMore;
 
 impl Play<(), Told> for OpenMore {
     ghost then = { λ st m found w. opened_more st m found w };
 }
 
+/// A step that takes one away from the open word.
 pub struct CloseOne;
 
 impl Play<(), Told> for CloseOne {
     ghost then = { λ st m found w. closed_one st m found w };
 }
 
+/// A load of the open word.
 pub struct SeeOpen;
 
 impl Play<(), Told> for SeeOpen {
     ghost then = { λ st m found w. saw_open st m found w };
 }
 
+/// A load of the best word.
 pub struct SeeBest;
 
 impl Play<(), Told> for SeeBest {
     ghost then = { λ st m found w. saw_best st m found w };
 }
 
+/// A step that tells a cost at the best word.
 pub struct TellCost;
 
 impl Play<(), Told> for TellCost {
     ghost then = { λ st m found w. told_cost st m found w };
 }
 
+/// A step that sets the stop word, where no stop was set before.
 pub struct SetStop;
 
 impl Play<(), Told> for SetStop {
     ghost then = { λ st m found w. set_stop st m found w };
 }
 
+/// A load of the stop word.
 pub struct SeeStop;
 
 impl Play<(), Told> for SeeStop {
     ghost then = { λ st m found w. saw_stop st m found w };
 }
 
+/// A load at which a seat learns what the rule says of what it keeps.
 pub struct Learn;
 
 impl Play<(), Told> for Learn {

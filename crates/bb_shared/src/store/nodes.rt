@@ -198,7 +198,7 @@ impl<N: Drop> Store<N> {
         unreachable!()
     }
 
-    // The same without waiting: `None` where no node stands at the number.
+    /// The same without waiting: `None` where no node stands at the number.
     pub(crate) fn try_take(&self, seat: &mut StoreSeat<N>, number: u32) -> Option<N>
         requires own { seat.old.store ≡ self.now }
         ensures own { seat.new.store ≡ seat.old.store }

@@ -3,7 +3,7 @@ use Rattle.std.proofs.Common.{◌≡◌, ◌+◌, ℕ, sym, ap, ◌∙◌, subst
 use Rattle.std.specs.Prelude.{List, replicate, None}
 use Rattle.atomic_table.specs.Table.{opening}
 use Rattle.bb_shared.specs.StoreRules.{IsStore, giver}
-use Rattle.bb_shared.proofs.StoreSteps.{opens}
+use Rattle.bb_shared.proofs.StoreDeals.{opens}
 use Rattle.bb_shared.proofs.store.nodes.Store.begin.Goals as goal
 
 pub vacant-requires : goal.vacant-requires

@@ -3,7 +3,7 @@ use Rattle.std.proofs.Common.{◌∙◌, sym, subst, arith, Option}
 use Rattle.atomic_table.specs.Table.{Me, Splits}
 use Rattle.bb_shared.specs.declared.store.stored.StoreView.{StoreView}
 use Rattle.bb_shared.specs.StoreRules.{IsStore, given_one, one_part}
-use Rattle.bb_shared.proofs.StoreSteps.{deals}
+use Rattle.bb_shared.proofs.StoreDeals.{deals}
 use Rattle.bb_shared.proofs.store.nodes.Store.deal.Goals as goal
 
 pub split_seat-seat-requires : goal.split_seat-seat-requires

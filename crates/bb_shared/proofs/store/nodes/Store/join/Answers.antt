@@ -3,7 +3,8 @@ use Rattle.std.proofs.Common.{ap, ◌∙◌, sym, arith, Option}
 use Rattle.atomic_table.specs.Table.{Me}
 use Rattle.bb_shared.specs.Stores.{StoreSeated}
 use Rattle.bb_shared.specs.declared.store.stored.StoreView.{StoreView}
-use Rattle.bb_shared.proofs.StoreSteps.{joins, learns}
+use Rattle.bb_shared.proofs.StoreDeals.{joins}
+use Rattle.bb_shared.proofs.StoreSteps.{learns}
 use Rattle.bb_shared.proofs.store.nodes.Store.join.Goals as goal
 
 pub join_seat-requires : goal.join_seat-requires
