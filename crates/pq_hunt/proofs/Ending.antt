@@ -5,7 +5,7 @@ use Rattle.std.specs.declared.cmp.Ordering.{Ordering}
 use Rattle.std.specs.Ordering.{nat_cmp, is_lt, ordering_then}
 use Rattle.std.specs.List.Sorted.{IsPermutation, IsSorted, IsNonDecreasingBy}
 use Rattle.std.proofs.lemmas.List.{append_assoc, append-nil, drop_more}
-use mathlib.Core.Option.{some, some-injective, some-ne-none}
+use mathlib.Core.Option.{some}
 use lib.ListN.{get_elem?}
 use Rattle.std.proofs.lemmas.List.Elements.{All-from_get_or}
 use Rattle.std.proofs.lemmas.List.Sorted.{IsNonDecreasingBy-from_sort, IsNonDecreasingBy-drop}
@@ -21,6 +21,7 @@ use Rattle.pq_hunt.specs.declared.views.HuntPart.{HuntPart}
 use Rattle.pq_seats.specs.declared.views.Limits.{Limits}
 use Rattle.pq_seats.specs.declared.views.View.{View}
 use Rattle.pq_seats.specs.Seats.{Ended}
+use Rattle.pq_seats.proofs.Lists.{read_at}
 use Rattle.std.proofs.lemmas.Bool.Decides.{nat_tests}
 use Rattle.pq_hunt.specs.Nodes.{node, standing}
 use Rattle.pq_hunt.specs.Layout.{lock_of, word_of, is_lock}
@@ -51,16 +52,11 @@ pub all_kept : (nodes : List Node) (kept all : List Entry) (n : ℕ) → length 
 all_kept nodes kept all n past so = sym (append-nil kept)
     ∙ (ap (λ (l : List Node). kept ++ standing l) (sym (drop_of_length-le nodes past)) ∙ so)
 
-at_word : (l : List ℕ) (i x : ℕ) → get_elem? l i ≡ some x → slice_index l i ≡ x
-at_word [] i x at = absurd (some-ne-none x (sym at))
-at_word (y ∷ l) zero x at = some-injective y x at
-at_word (y ∷ l) (suc i) x at = at_word l i x at
-
 -- what the word that was read says
 pub word_says : (capacity : ℕ) (words : List ℕ) (nodes : List Node) (i j x : ℕ) → SayNodes capacity words nodes → 1 ≤ i → i ≤ capacity
     → j ≡ word_of i → get_elem? words j ≡ some x → Means (node nodes i) x
 word_says capacity words nodes i j x says low high e at =
-    subst (λ (z : ℕ). Means (node nodes i) z) (ap (slice_index words) (sym e) ∙ at_word words j x at) (says.means i low high)
+    subst (λ (z : ℕ). Means (node nodes i) z) (ap (slice_index words) (sym e) ∙ read_at words j x at) (says.means i low high)
 
 -- a list whose numbers rise
 rising : (xs : List Entry) → IsNonDecreasingBy raw_of xs → IsRising xs
@@ -101,6 +97,6 @@ module _ (k : Limits) (v : View HuntPart) (words : List ℕ) (e : Ended hunt_rul
     history = e.history;
     actual = e.actual;
     legal = subst (λ (n : ℕ). IsLegal n capacity e.history) (sym seated) (subst (λ (n : ℕ). IsLegal k.seats n e.history) (sym sized) e.legal);
-    long = sym e.counted ∙ at_word words 0 long first;
+    long = sym e.counted ∙ read_at words 0 long first;
     rest = is ∙ sym e.tied.facts.holds;
   }

@@ -4,6 +4,7 @@ use Rattle.std.specs.Prelude.{None, Contains}
 use mathlib.Core.Option.{some}
 use lib.ListN.{get_elem?}
 use Rattle.pq_words.specs.declared.entries.Entry.{Entry}
+use Rattle.pq_model.specs.Limits.{max_seats}
 use Rattle.pq_seats.specs.declared.views.Limits.{Limits}
 use Rattle.pq_seats.specs.declared.views.Post.{Post}
 use Rattle.pq_seats.specs.Letters.{back, letter_count}
@@ -79,7 +80,7 @@ pub record HuntTied (k : Limits) (words : List ℕ) (posts : List (Post HuntPart
   pub owing : (j : ℕ) (p : Post HuntPart) → get_elem? posts j ≡ some p
       → (p.owed ≡ []) ⊎ ((g : Guard) × Contains p.own.guards g × (g.node ≡ 1))
   -- each letter names a place
-  pub sent : (n : ℕ) → 0 < n → n ≤ 16 → slice_index words n < back
+  pub sent : (n : ℕ) → 0 < n → n ≤ max_seats → slice_index words n < back
   pub owes : (j : ℕ) (p : Post HuntPart) (x : ℕ × ℕ) → get_elem? posts j ≡ some p → Contains p.owed x → x.1 < back
   -- a seat that found its entry gone from the root has its letter
   pub lettered : (j : ℕ) (p : Post HuntPart) → get_elem? posts j ≡ some p → p.own.lettered ≡ true →

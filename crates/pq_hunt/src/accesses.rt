@@ -21,7 +21,7 @@ use crate::plays::{
 };
 use crate::{HuntPass, HuntTable};
 
-// The word of a node whose lock the seat holds.
+/// The word of a node whose lock the seat holds.
 pub(crate) fn look(table: &HuntTable, pass: &mut HuntPass, node: u32) -> u64
     requires table { IsHeapTable table.now }
     requires own { Belongs table.now pass.old }
@@ -39,7 +39,7 @@ pub(crate) fn look(table: &HuntTable, pass: &mut HuntPass, node: u32) -> u64
         .load::<Look>(&mut pass.seat, word_of(node) as usize)
 }
 
-// The size, by a seat that holds the heap's lock.
+/// The size, by a seat that holds the heap's lock.
 pub(crate) fn look_at_size(table: &HuntTable, pass: &mut HuntPass) -> u64
     requires table { IsHeapTable table.now }
     requires own { Belongs table.now pass.old }
@@ -55,7 +55,7 @@ pub(crate) fn look_at_size(table: &HuntTable, pass: &mut HuntPass) -> u64
         .load::<LookAtSize>(&mut pass.seat, SIZE as usize)
 }
 
-// Stores the size.
+/// Stores the size.
 pub(crate) fn store_size(table: &HuntTable, pass: &mut HuntPass, size: u32)
     requires table { IsHeapTable table.now }
     requires own { Belongs table.now pass.old }
@@ -70,7 +70,7 @@ pub(crate) fn store_size(table: &HuntTable, pass: &mut HuntPass, size: u32)
         .store::<StoreSize>(&mut pass.seat, SIZE as usize, u64::from(size));
 }
 
-// Stores the word of a node that counts as it did.
+/// Stores the word of a node that counts as it did.
 pub(crate) fn store(table: &HuntTable, pass: &mut HuntPass, node: u32, word: u64)
     requires table { IsHeapTable table.now }
     requires own { Belongs table.now pass.old }
@@ -88,7 +88,7 @@ pub(crate) fn store(table: &HuntTable, pass: &mut HuntPass, node: u32, word: u64
         .store::<Store>(&mut pass.seat, word_of(node) as usize, word);
 }
 
-// Makes the next node Busy with this entry, which the word says.
+/// Makes the next node Busy with this entry, which the word says.
 pub(crate) fn make_busy(table: &HuntTable, pass: &mut HuntPass, node: u32, word: u64)
     requires table { IsHeapTable table.now }
     requires own { Belongs table.now pass.old }
@@ -107,7 +107,7 @@ pub(crate) fn make_busy(table: &HuntTable, pass: &mut HuntPass, node: u32, word:
         .store::<Leaf>(&mut pass.seat, word_of(node) as usize, word);
 }
 
-// Lets the seat's entry climb to the parent, by the store of its word there.
+/// Lets the seat's entry climb to the parent, by the store of its word there.
 pub(crate) fn climb_to(table: &HuntTable, pass: &mut HuntPass, parent: u32, word: u64)
     requires table { IsHeapTable table.now }
     requires own { Belongs table.now pass.old }
@@ -123,7 +123,7 @@ pub(crate) fn climb_to(table: &HuntTable, pass: &mut HuntPass, parent: u32, word
         .store::<Climb>(&mut pass.seat, word_of(parent) as usize, word);
 }
 
-// Moves the left child's word up into the hole.
+/// Moves the left child's word up into the hole.
 pub(crate) fn sift_left(table: &HuntTable, pass: &mut HuntPass, hole: u32, word: u64)
     requires table { IsHeapTable table.now }
     requires own { Belongs table.now pass.old }
@@ -140,7 +140,7 @@ pub(crate) fn sift_left(table: &HuntTable, pass: &mut HuntPass, hole: u32, word:
         .store::<Sift>(&mut pass.seat, word_of(hole) as usize, word);
 }
 
-// Moves the right child's word up into the hole.
+/// Moves the right child's word up into the hole.
 pub(crate) fn sift_right(table: &HuntTable, pass: &mut HuntPass, hole: u32, word: u64)
     requires table { IsHeapTable table.now }
     requires own { Belongs table.now pass.old }
@@ -158,7 +158,7 @@ pub(crate) fn sift_right(table: &HuntTable, pass: &mut HuntPass, hole: u32, word
         .store::<SiftRight>(&mut pass.seat, word_of(hole) as usize, word);
 }
 
-// Fills the hole with the entry in hand.
+/// Fills the hole with the entry in hand.
 pub(crate) fn fill(table: &HuntTable, pass: &mut HuntPass, hole: u32, word: u64)
     requires table { IsHeapTable table.now }
     requires own { Belongs table.now pass.old }
@@ -174,8 +174,8 @@ pub(crate) fn fill(table: &HuntTable, pass: &mut HuntPass, hole: u32, word: u64)
         .store::<Fill>(&mut pass.seat, word_of(hole) as usize, word);
 }
 
-// The word of the node where the seat looks for its entry. Where it is not the seat's own Busy word, the seat looks at
-// the parent next.
+/// The word of the node where the seat looks for its entry. Where it is not the seat's own Busy word, the seat looks at
+/// the parent next.
 pub(crate) fn find(table: &HuntTable, pass: &mut HuntPass, node: u32) -> u64
     requires table { IsHeapTable table.now }
     requires own { Belongs table.now pass.old }
@@ -195,8 +195,8 @@ pub(crate) fn find(table: &HuntTable, pass: &mut HuntPass, node: u32) -> u64
         .load::<Find>(&mut pass.seat, word_of(node) as usize)
 }
 
-// The word of the root, by a seat that looks for its entry there. Where it is not the seat's own Busy word, the seat
-// has its letter.
+/// The word of the root, by a seat that looks for its entry there. Where it is not the seat's own Busy word, the seat
+/// has its letter.
 pub(crate) fn find_at_root(table: &HuntTable, pass: &mut HuntPass) -> u64
     requires table { IsHeapTable table.now }
     requires own { Belongs table.now pass.old }

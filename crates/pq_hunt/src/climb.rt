@@ -208,8 +208,8 @@ fn take_over(table: &HuntTable, pass: &mut HuntPass, e: Entry) -> u32
     }
 }
 
-// Lets the entry climb until the insert is done. It backs off where the parent's entry is in the middle of a step
-// itself.
+/// Lets the entry climb until the insert is done. It backs off where the parent's entry is in the middle of a step
+/// itself.
 pub(crate) fn climb<W: Wait>(
     table: &HuntTable,
     rt: &W,

@@ -21,7 +21,7 @@ use pq_model::{Act, Receipt};
 use pq_words::{Entry, HeapWord, Tag};
 use std::sync::Wait;
 
-// Takes the heap's lock, and reads the size.
+/// Takes the heap's lock, and reads the size.
 pub(crate) fn begin<W: Wait>(table: &HuntTable, rt: &W, pass: &mut HuntPass) -> u32
     requires table { IsHeapTable table.now }
     requires own { Belongs table.now pass.old }

@@ -10,7 +10,7 @@ use crate::{HuntPass, HuntTable};
 use crossbeam_utils::Backoff;
 use std::sync::Wait;
 
-// Takes the heap's lock. The view names the size then.
+/// Takes the heap's lock. The view names the size then.
 pub(crate) fn take_heap<W: Wait>(table: &HuntTable, rt: &W, pass: &mut HuntPass)
     requires table { IsHeapTable table.now }
     requires own { Belongs table.now pass.old }
@@ -21,7 +21,8 @@ pub(crate) fn take_heap<W: Wait>(table: &HuntTable, rt: &W, pass: &mut HuntPass)
     table.lock(rt, pass, HEAP_LOCK);
 }
 
-// Takes the lock of a node. The view has a guard for it then. The first try stands here alone, so that it costs no call.
+/// Takes the lock of a node. The view has a guard for it then. The first try stands here alone, so that it costs no
+/// call.
 #[inline]
 pub(crate) fn take_node<W: Wait>(table: &HuntTable, rt: &W, pass: &mut HuntPass, node: u32)
     requires table { IsHeapTable table.now }
@@ -52,7 +53,7 @@ fn wait_for_node<W: Wait>(table: &HuntTable, rt: &W, pass: &mut HuntPass, node: 
     table.lock(rt, pass, lock_of(node));
 }
 
-// Frees the heap's lock, where the size is stored as it counts.
+/// Frees the heap's lock, where the size is stored as it counts.
 pub(crate) fn free_heap(table: &HuntTable, pass: &mut HuntPass)
     requires table { IsHeapTable table.now }
     requires own { Belongs table.now pass.old }
@@ -65,7 +66,7 @@ pub(crate) fn free_heap(table: &HuntTable, pass: &mut HuntPass)
     table.unlock(pass, HEAP_LOCK);
 }
 
-// Frees the lock of a node, which counts as its word says. The root's is freed by who owes no letter.
+/// Frees the lock of a node, which counts as its word says. The root's is freed by who owes no letter.
 pub(crate) fn free_node(table: &HuntTable, pass: &mut HuntPass, node: u32)
     requires table { IsHeapTable table.now }
     requires own { Belongs table.now pass.old }
@@ -79,7 +80,7 @@ pub(crate) fn free_node(table: &HuntTable, pass: &mut HuntPass, node: u32)
     table.unlock(pass, lock_of(node));
 }
 
-// Frees the locks of two nodes, the second one first.
+/// Frees the locks of two nodes, the second one first.
 pub(crate) fn free_two(table: &HuntTable, pass: &mut HuntPass, first: u32, second: u32)
     requires table { IsHeapTable table.now }
     requires own { Belongs table.now pass.old }

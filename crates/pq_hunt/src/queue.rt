@@ -224,9 +224,9 @@ impl<G: Gate> SharedQueue for HuntHeap<G> {
 
     ghost sized = { λ q. Prim.search rules };
 
-    /// Takes memory for 4 words for each entry of the capacity and 36 more, and as many again until it returns: the words
-    /// are made in a list, which the table copies. O(capacity), and nearly all of it is the system's first touch of the
-    /// pages of both: some 50 milliseconds at the greatest capacity, which takes 2 times 32 MiB.
+    /// Takes memory for 4 words for each entry of the capacity and 36 more, and as many again until it returns: the
+    /// words are made in a list, which the table copies. O(capacity), and nearly all of it is the system's first touch
+    /// of the pages of both: some 50 milliseconds at the greatest capacity, which takes 2 times 32 MiB.
     fn open(
         alloc: Global,
         capacity: u32,

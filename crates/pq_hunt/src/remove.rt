@@ -320,7 +320,7 @@ fn take_entry<W: Wait>(
     }
 }
 
-// Takes the least entry out of the heap. Calls `below_root` wherever its hole has come below the root.
+/// Takes the least entry out of the heap. Calls `below_root` wherever its hole has come below the root.
 pub(crate) fn remove<W: Wait, F: FnMut()>(
     table: &HuntTable,
     below_root: F,
@@ -349,7 +349,7 @@ pub(crate) fn remove<W: Wait, F: FnMut()>(
     }
 }
 
-// The same, where its key is below the limit.
+/// The same, where its key is below the limit.
 pub(crate) fn remove_below<W: Wait, F: FnMut()>(
     table: &HuntTable,
     below_root: F,

@@ -18,8 +18,8 @@ use crate::{HuntPass, HuntTable};
 use pq_words::{Entry, HeapWord, RAW_LIMIT, Tag};
 use std::sync::Wait;
 
-// Sifts the hole at the root down, and fills it with the entry in hand. The seat holds the hole's lock alone at first,
-// and none then. Calls `below_root` wherever the hole has come below the root. O(log n) turns.
+/// Sifts the hole at the root down, and fills it with the entry in hand. The seat holds the hole's lock alone at first,
+/// and none then. Calls `below_root` wherever the hole has come below the root. O(log n) turns.
 pub(crate) fn sift<W: Wait, F: FnMut()>(
     table: &HuntTable,
     mut below_root: F,

@@ -8,7 +8,7 @@ ghost use Rattle.inst_text.specs.Script.{IsCommand, IsScript};
 ghost use Rattle.pq_lanes.specs.Lanes.{HasMade, acts_of, on_tapes};
 
 use crate::lane::run_lane;
-use crate::running::Lanes;
+use crate::lanes::Lanes;
 use inst_text::Script;
 use pq_api::{BoundedQueue, SharedQueue};
 use pq_io::NoMemory;

@@ -4,7 +4,7 @@ ghost use Rattle.pq_model.specs.History.{IsLegal, left};
 ghost use Rattle.pq_model.specs.Passes.{lanes, IsActual};
 ghost use Rattle.pq_lanes.specs.Lanes.{on_tapes, AreNumbered};
 
-use crate::running::Lanes;
+use crate::lanes::Lanes;
 use pq_api::{CloseWhy, SharedQueue, sizes_are_bounded};
 use pq_io::NoMemory;
 use pq_tape::{Head, History, merge};

@@ -5,22 +5,13 @@ ghost use Rattle.pq_api.specs.Answers.{EachAt};
 ghost use Rattle.pq_lanes.specs.Lanes.{HaveRun, on_tapes};
 
 use crate::callers::{callers_of, joined, run_all};
+use crate::lanes::Lanes;
 use inst_text::Script;
 use pq_api::BoundedQueue;
 use pq_io::NoMemory;
-use pq_tape::Tape;
 use std::alloc::Global;
 use std::sync::Wait;
 use std::thread::Threads;
-
-/// What the callers of a script leave.
-#[derive(Drop)]
-pub struct Lanes<P> {
-    /// The first pass, with all others joined into it.
-    pub pass: P,
-    /// A tape for each lane, in the order of the lanes.
-    pub tapes: Vec<Tape>,
-}
 
 /// Runs a script on a queue: one caller for each lane runs the lane's commands in order with the pass of the lane's
 /// number, in a thread of its own; where a thread cannot be had, its work is done by the calling one. Then all passes

@@ -190,9 +190,3 @@ bench_begins k words chunks seat few room long all =
     first_only : (f : Post PoolView) (j : ℕ) (p : Post PoolView) → get_elem? (f ∷ []) j ≡ some p → f ≡ p
     first_only f zero p at = some-injective f p at
     first_only f (suc j) p at = absurd (some-ne-none p (sym at))
-
-pub zero_more : (l : List ℕ) → ((i : ℕ) → get_or l i 0 ≡ 0) → (i : ℕ) → get_or (l ++ 0 ∷ []) i 0 ≡ 0
-zero_more [] all zero = refl
-zero_more [] all (suc i) = refl
-zero_more (x ∷ xs) all zero = all 0
-zero_more (x ∷ xs) all (suc i) = zero_more xs (λ j. all (suc j)) i

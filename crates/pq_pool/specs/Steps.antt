@@ -35,8 +35,9 @@ module _ {O : Type 0} (R : Rule O) (P : PoolPart O) where
     pub nobody : (m : Moment v) (j : ℕ) (p : Post O) → get_elem? m.posts j ≡ some p → 0 < p.number
         → (P.view_of p.own).pinned ≡ true → ¬ Contains (P.view_of p.own).stands c
 
-  -- A seat whose pool's part was `old` has pinned itself: there is a moment at which it has this view, as the step's own
-  -- is, and it stands on just the chunks that are live then, and where it was pinned before, on those on which it stood
+  -- A seat whose pool's part was `old` has pinned itself: there is a moment at which it has this view, as the step's
+  -- own is, and it stands on just the chunks that are live then, and where it was pinned before, on those on which it
+  -- stood
   pub record StandsOnLive (old : PoolView) (v : View O) : Type 0 where
     pub moment : Moment v
     pub all : (c : ℕ) → IsLive moment.facts.counted c → Contains (pool_view P v).stands c
@@ -44,8 +45,8 @@ module _ {O : Type 0} (R : Rule O) (P : PoolPart O) where
         → IsLive moment.facts.counted c ⊎ ((old.pinned ≡ true) × Contains old.stands c)
     pub kept : old.pinned ≡ true → (c : ℕ) → Contains old.stands c → Contains (pool_view P v).stands c
 
-  -- It has looked under its pin: there is a moment at which it has this view, as the step's own is, and it stands on all
-  -- chunks that are safe for it then, and on each on which it stood
+  -- It has looked under its pin: there is a moment at which it has this view, as the step's own is, and it stands on
+  -- all chunks that are safe for it then, and on each on which it stood
   pub record StandsOnSafe (old : PoolView) (v : View O) : Type 0 where
     pub moment : Moment v
     pub all : (c : ℕ) → IsSafe moment.facts.counted v.post.number c → Contains (pool_view P v).stands c

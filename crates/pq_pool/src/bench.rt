@@ -42,6 +42,7 @@ impl PoolRule for Bench {
     ghost pool_laws = { bench_pool_laws };
 }
 
+/// The pass of a seat of the bench.
 pub type BenchPass = SeatPass<Bench>;
 
 /// The words of a fresh bench: all are 0, so every chunk is free, every link is 0, and no pin or grace bit is set. They
@@ -63,9 +64,9 @@ pub fn bench_words(alloc: Global, chunks: u32, seats: u32) -> Result<Vec<u64>, N
 }
 
 impl Bench {
-    /// Opens a fresh bench with the words of `bench_words`, and gives all its passes at once, numbered from 1 on. Each is
-    /// new: its seat has no pin and not the builder's word, and has seen and read nothing. That all chunks are free, no
-    /// clause says here, since a table tells nothing of its words but its rule; it rests on `bench_words`.
+    /// Opens a fresh bench with the words of `bench_words`, and gives all its passes at once, numbered from 1 on. Each
+    /// is new: its seat has no pin and not the builder's word, and has seen and read nothing. That all chunks are free,
+    /// no clause says here, since a table tells nothing of its words but its rule; it rests on `bench_words`.
     pub fn open(
         alloc: Global,
         chunks: u32,

@@ -12,9 +12,9 @@ use crate::layout::PINS;
 use crate::plays::{Look, Pin, Unpin};
 use pq_seats::{SeatPass, Shared};
 
-/// Sets the seat's pin word, by one store. From then on the seat stands on all chunks that are live at a moment at which
-/// it has this view, as the step's own is, and where it was pinned before, on those on which it stood. Until its next
-/// step none of them is free.
+/// Sets the seat's pin word, by one store. From then on the seat stands on all chunks that are live at a moment at
+/// which it has this view, as the step's own is, and where it was pinned before, on those on which it stood. Until its
+/// next step none of them is free.
 ///
 /// The seat does not hold the builder's word. Any seat may pin itself at any other time, whatever the queue does. The
 /// table has the words of the pool: that there is a pin word to write is not known of every table.
@@ -55,8 +55,8 @@ pub fn unpin<R: PoolRule>(shared: &Shared<R>, pass: &mut SeatPass<R>)
 
 /// A look under the pin, by one load. However long ago the seat pinned itself, and whatever the builders have done
 /// since: none of the chunks on which it stands was given out, and from then on it stands on each chunk too that, at a
-/// moment at which it has this view, is live or young, or old with the seat's grace bit set. Until its next step none of
-/// them is free.
+/// moment at which it has this view, is live or young, or old with the seat's grace bit set. Until its next step none
+/// of them is free.
 pub fn still_stands<R: PoolRule>(shared: &Shared<R>, pass: &mut SeatPass<R>)
     requires own { Belongs shared.now pass.old }
     requires pinned { (pool_of R.pool pass.old).pinned ≡ true }

@@ -12,7 +12,7 @@ use crate::layout::{BUILT, CHUNK_WORDS, FIRST_CHUNK, FIRST_STATE, GRACE_BITS, PI
 use crate::plays::{Begin, LoadGrace, LoadPin, LoadState, StoreGrace, StoreState, Turn};
 use pq_seats::{SeatPass, Shared};
 
-// The grace bit of a seat.
+/// The grace bit of a seat.
 pub fn load_grace<R: PoolRule>(shared: &Shared<R>, pass: &mut SeatPass<R>, seat: u32) -> u64
     requires builder { HoldsBuilder R.pool shared.now pass.old }
     requires seat { IsSeat shared.now.seats seat }
@@ -26,7 +26,7 @@ pub fn load_grace<R: PoolRule>(shared: &Shared<R>, pass: &mut SeatPass<R>, seat:
         .load::<LoadGrace<R>>(&mut pass.seat, GRACE_BITS + seat as usize)
 }
 
-// The pin word of a seat. Where it is 0, the seat's grace bit no more counts.
+/// The pin word of a seat. Where it is 0, the seat's grace bit no more counts.
 pub fn load_pin<R: PoolRule>(shared: &Shared<R>, pass: &mut SeatPass<R>, seat: u32) -> u64
     requires builder { HoldsBuilder R.pool shared.now pass.old }
     requires seat { IsSeat shared.now.seats seat }
@@ -40,7 +40,7 @@ pub fn load_pin<R: PoolRule>(shared: &Shared<R>, pass: &mut SeatPass<R>, seat: u
         .load::<LoadPin<R>>(&mut pass.seat, PINS + seat as usize)
 }
 
-// Stores a grace bit. Nothing that counts changes.
+/// Stores a grace bit. Nothing that counts changes.
 pub fn store_grace<R: PoolRule>(shared: &Shared<R>, pass: &mut SeatPass<R>, seat: u32, bit: u64)
     requires builder { HoldsBuilder R.pool shared.now pass.old }
     requires seat { IsSeat shared.now.seats seat }
@@ -53,7 +53,7 @@ pub fn store_grace<R: PoolRule>(shared: &Shared<R>, pass: &mut SeatPass<R>, seat
         .store::<StoreGrace<R>>(&mut pass.seat, GRACE_BITS + seat as usize, bit);
 }
 
-// Stores the grace bit of seat 1, at which the batches turn. No bit may be left.
+/// Stores the grace bit of seat 1, at which the batches turn. No bit may be left.
 pub fn turn_batches<R: PoolRule>(shared: &Shared<R>, pass: &mut SeatPass<R>, bit: u64)
     requires builder { HoldsBuilder R.pool shared.now pass.old }
     requires cleared { (n : ℕ) → IsSeat shared.now.seats n → grace_of (pool_of R.pool pass.old).counted n ≡ 0 }
@@ -67,7 +67,7 @@ pub fn turn_batches<R: PoolRule>(shared: &Shared<R>, pass: &mut SeatPass<R>, bit
         .store::<Turn<R>>(&mut pass.seat, GRACE_BITS + 1, bit);
 }
 
-// How many chunks the table has.
+/// How many chunks the table has.
 pub fn chunk_count<R: PoolRule>(shared: &Shared<R>, pass: &SeatPass<R>) -> u32
     requires builder { HoldsBuilder R.pool shared.now pass.now }
     ensures stored { result ≡ length (pool_of R.pool pass.now).stored.states }
@@ -76,7 +76,7 @@ pub fn chunk_count<R: PoolRule>(shared: &Shared<R>, pass: &SeatPass<R>) -> u32
     ((shared.words - FIRST_CHUNK) / CHUNK_WORDS) as u32
 }
 
-// The state of a chunk.
+/// The state of a chunk.
 pub fn load_state<R: PoolRule>(shared: &Shared<R>, pass: &mut SeatPass<R>, chunk: u32) -> u64
     requires builder { HoldsBuilder R.pool shared.now pass.old }
     requires chunk { chunk < length (pool_of R.pool pass.old).stored.states }
@@ -90,7 +90,7 @@ pub fn load_state<R: PoolRule>(shared: &Shared<R>, pass: &mut SeatPass<R>, chunk
         .load::<LoadState<R>>(&mut pass.seat, FIRST_STATE + CHUNK_WORDS * chunk as usize)
 }
 
-// Stores a state. Nothing that counts changes.
+/// Stores a state. Nothing that counts changes.
 pub fn store_state<R: PoolRule>(shared: &Shared<R>, pass: &mut SeatPass<R>, chunk: u32, state: u64)
     requires builder { HoldsBuilder R.pool shared.now pass.old }
     requires chunk { chunk < length (pool_of R.pool pass.old).stored.states }
@@ -105,7 +105,7 @@ pub fn store_state<R: PoolRule>(shared: &Shared<R>, pass: &mut SeatPass<R>, chun
     );
 }
 
-// Takes a free chunk, which is then being built. At that step no pinned seat stands on it.
+/// Takes a free chunk, which is then being built. At that step no pinned seat stands on it.
 pub fn begin_chunk<R: PoolRule>(shared: &Shared<R>, pass: &mut SeatPass<R>, chunk: u32)
     requires builder { HoldsBuilder R.pool shared.now pass.old }
     requires chunk { chunk < length (pool_of R.pool pass.old).stored.states }

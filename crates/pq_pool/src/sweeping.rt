@@ -125,7 +125,7 @@ fn turn<R: PoolRule>(shared: &Shared<R>, pass: &mut SeatPass<R>)
     store_all_states(shared, pass);
 }
 
-// A whole sweep: it clears the grace bits of the seats whose pin word is 0, and turns the batches where none is left.
+/// A whole sweep: it clears the grace bits of the seats whose pin word is 0, and turns the batches where none is left.
 pub fn sweep<R: PoolRule>(shared: &Shared<R>, pass: &mut SeatPass<R>)
     requires builder { HoldsBuilder R.pool shared.now pass.old }
     requires agrees { AgreesAt R.pool shared.now pass.old }

@@ -1,5 +1,6 @@
 -- Sums over lists, elements of lists, and lanes.
 use Rattle.std.proofs.Common.{◌≡◌, ◌≢◌, ◌⊎◌, ℕ, zero, suc, ◌+◌, ◌<◌, ◌≤◌, Bool, true, false, cond, eqb, List, [], ◌∷◌, ◌++◌, map, length, get_or, set, sym, refl, ap, ◌∙◌, subst, inl, inr, ⊎_elim, arith, eq-eqb, ne_eqb, Contains, All, sum_by}
+use Rattle.std.specs.Prelude.{slice_index}
 use Rattle.std.proofs.lemmas.Bool.Decides.{eqb_tells}
 use Rattle.std.proofs.lemmas.List.Sums.{sum_by-cons, sum_by-set, get_or-le-sum_by}
 use Rattle.std.proofs.lemmas.List.Elements.{All-weaker, All-contains_itself}
@@ -19,6 +20,19 @@ test_same a b x y e = ap (λ (t : Bool). cond t x y) (eq-eqb a b e)
 
 pub test_other : (a b x y : ℕ) → a ≢ b → cond (eqb a b) x y ≡ y
 test_other a b x y ne = ap (λ (t : Bool). cond t x y) (ne_eqb a b ne)
+
+-- the number that stands there
+pub read_at : (l : List ℕ) (i x : ℕ) → get_elem? l i ≡ some x → slice_index l i ≡ x
+read_at [] i x at = absurd (some-ne-none x (sym at))
+read_at (y ∷ l) zero x at = some-injective y x at
+read_at (y ∷ l) (suc i) x at = read_at l i x at
+
+-- where all are 0, they are with one 0 more
+pub zero_more : (l : List ℕ) → ((i : ℕ) → get_or l i 0 ≡ 0) → (i : ℕ) → get_or (l ++ 0 ∷ []) i 0 ≡ 0
+zero_more [] all zero = refl
+zero_more [] all (suc i) = refl
+zero_more (x ∷ xs) all zero = all 0
+zero_more (x ∷ xs) all (suc i) = zero_more xs (λ j. all (suc j)) i
 
 module _ {A : Type 0} where
   pub within_at : (l : List A) (i : ℕ) (v : A) → get_elem? l i ≡ some v → (i < length l) × (get_or l i v ≡ v)

@@ -374,9 +374,3 @@ spot_begins k words seat room long all = record {
     only : (j : ℕ) (p : P) → get_elem? (empty_post idle 0 ∷ []) j ≡ some p → empty_post idle 0 ≡ p
     only zero p at = some-injective _ p at
     only (suc j) p at = absurd (some-ne-none p (sym at))
-
-pub zero_more : (l : List ℕ) → ((i : ℕ) → get_or l i 0 ≡ 0) → (i : ℕ) → get_or (l ++ 0 ∷ []) i 0 ≡ 0
-zero_more [] all zero = refl
-zero_more [] all (suc i) = refl
-zero_more (x ∷ xs) all zero = all 0
-zero_more (x ∷ xs) all (suc i) = zero_more xs (λ j. all (suc j)) i

@@ -1,7 +1,6 @@
 -- What the words of a closed table leave.
 use Rattle.std.proofs.Common.{◌≡◌, ◌≢◌, Some, None, ℕ, zero, suc, Bool, true, false, ◌==◌, List, [], ◌∷◌, refl, ap, ◌∙◌, sym, subst, ⊎_elim}
-use Rattle.std.specs.Prelude.{slice_index}
-use mathlib.Core.Option.{some, some-injective, some-ne-none}
+use mathlib.Core.Option.{some}
 use lib.ListN.{get_elem?}
 use Rattle.pq_model.specs.History.{IsLegal}
 use Rattle.pq_api.specs.Closing.{IsClosed}
@@ -10,14 +9,10 @@ use Rattle.pq_seats.specs.declared.views.Post.{Post}
 use Rattle.pq_seats.specs.declared.views.View.{View}
 use Rattle.pq_seats.specs.Views.{known_of}
 use Rattle.pq_seats.specs.Seats.{Ended}
+use Rattle.pq_seats.proofs.Lists.{read_at}
 use Rattle.pq_spot.specs.declared.views.SpotPart.{SpotPart}
 use Rattle.pq_spot.specs.Spot.{token, lock_word, held, spot_rule}
 use Rattle.pq_spot.specs.Passes.{resting, remains}
-
-at_word : (l : List ℕ) (i x : ℕ) → get_elem? l i ≡ some x → slice_index l i ≡ x
-at_word [] i x at = absurd (some-ne-none x (sym at))
-at_word (y ∷ l) zero x at = some-injective y x at
-at_word (y ∷ l) (suc i) x at = at_word l i x at
 
 -- where nobody offers the entry, it is in the queue or nowhere
 left_by_count : (c long : ℕ) → ((m : ℕ) → c ≢ suc (suc m)) → (remains (c == 1) long).left ≡ held c
@@ -41,10 +36,10 @@ module _ (k : Limits) (v : View SpotPart) (words : List ℕ) (e : Ended spot_rul
   pub shown : (seats spot long : ℕ) → seats ≡ k.seats → get_elem? words 18 ≡ some spot → get_elem? words 0 ≡ some long
       → IsClosed seats k.capacity (known_of v) (remains (spot == 1) long)
   shown seats spot long seated at first =
-      let word : spot ≡ e.tied.counted = sym (at_word words 18 spot at) ∙ e.tied.free (e.unlocked lock_word refl) in record {
+      let word : spot ≡ e.tied.counted = sym (read_at words 18 spot at) ∙ e.tied.free (e.unlocked lock_word refl) in record {
         history = e.history;
         actual = e.actual;
         legal = subst (λ (s : ℕ). IsLegal s k.capacity e.history) (sym seated) e.legal;
-        long = (sym e.counted ∙ at_word words 0 long first) ∙ sym (as_long (spot == 1) long);
+        long = (sym e.counted ∙ read_at words 0 long first) ∙ sym (as_long (spot == 1) long);
         rest = (ap (λ (c : ℕ). (remains (c == 1) long).left) word ∙ left_by_count e.tied.counted long nobody_offers) ∙ sym e.tied.entries;
       }

@@ -105,7 +105,8 @@ abbrev pub offered_post : Post SpotPart → Post SpotPart
 offered_post p = record p { flight = Some token; own = part (suc p.number) (suc p.number) }
 
 -- Of a step at the spot: the view that was, what was found, and the view that is
-module _ (st : Step (Unit {0})) (m : Me (Unit {0}) (View SpotPart)) (found : ℕ) (m' : Me (Unit {0}) (View SpotPart)) where
+module _ (st : Step (Unit {0})) (m : Me (Unit {0}) (View SpotPart)) (found : ℕ)
+    (m' : Me (Unit {0}) (View SpotPart)) where
   abbrev pub looks : Type 0
   looks = (m' ≡ m) × (found ≡ m.0.post.own.stored) × (m.0.post.own.counted ≤ 17)
 

@@ -16,6 +16,8 @@ impl SeatRule for SpotRule {
     ghost lawful = { spot_laws };
 }
 
+/// The pass of a seat of the spot's table.
 pub type SpotPass = SeatPass<SpotRule>;
 
+/// The table with one lock and one spot, which its seats share.
 pub type SpotTable = Shared<SpotRule>;

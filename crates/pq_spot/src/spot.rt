@@ -161,8 +161,8 @@ pub fn unhold(table: &SpotTable, pass: &mut SpotPass)
     free(table, pass);
 }
 
-/// Offers the entry, if the spot is free. The insert is in flight then: a removal may place it. The answer tells whether
-/// it is.
+/// Offers the entry, if the spot is free. The insert is in flight then: a removal may place it. The answer tells
+/// whether it is.
 pub fn offer<W: Wait>(rt: &W, table: &SpotTable, pass: &mut SpotPass) -> bool
     requires rests { Rests table.now pass.old }
     requires few { length (known pass.old).calls < call_limit - 1 }
@@ -180,8 +180,8 @@ pub fn offer<W: Wait>(rt: &W, table: &SpotTable, pass: &mut SpotPass) -> bool
     true
 }
 
-/// Places the insert that the pass has in flight, if its offer still stands, or else takes the letter of the removal that
-/// placed it. `None` where there is neither: the insert is in flight still.
+/// Places the insert that the pass has in flight, if its offer still stands, or else takes the letter of the removal
+/// that placed it. `None` where there is neither: the insert is in flight still.
 pub fn settle<W: Wait>(rt: &W, table: &SpotTable, pass: &mut SpotPass) -> Option<u32>
     requires offers { Offers table.now pass.old }
     requires few { length (known pass.old).calls < call_limit - 1 }

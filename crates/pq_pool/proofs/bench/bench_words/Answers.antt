@@ -1,6 +1,7 @@
 use Rattle.std.proofs.Common.{◌≡◌, ℕ, List, [], ◌∷◌, arith, refl, sym, ap, ◌∙◌, subst, length, get_or, length-append}
 use Rattle.pq_seats.specs.Seats.{limits_for}
-use Rattle.pq_pool.proofs.BenchAllows.{zero_more, bench_begins}
+use Rattle.pq_seats.proofs.Lists.{zero_more}
+use Rattle.pq_pool.proofs.BenchAllows.{bench_begins}
 use Rattle.pq_pool.proofs.bench.bench_words.Goals as goal
 
 pub loop-preserved : goal.loop-preserved
