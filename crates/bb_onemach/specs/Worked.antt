@@ -1,11 +1,7 @@
 -- A worked shop of three jobs and three machines. On machine 1 the first two jobs have head 5, time 5 and tail 5.
-use Rattle.std.specs.Prelude.{ℕ, [], ◌∷◌}
-use Rattle.inst_text.specs.declared.shop.Operation.{Operation}
+use Rattle.std.specs.Prelude.{[], ◌∷◌}
 use Rattle.inst_text.specs.Shop.{JobShop}
-
--- an operation on this machine that takes this time
-abbrev on : ℕ → ℕ → Operation
-on m t = record { machine = m; time = t }
+use Rattle.bb_shop.specs.Worked.{on}
 
 abbrev pub three_in_turn : JobShop
 three_in_turn = record {

@@ -15,13 +15,16 @@ use pq_io::NoMemory;
 use std::alloc::Global;
 use std::marker::Model;
 
-// How many operations the tables of heads have room for, and how many those of one machine's tasks.
+// How many operations the smallest table of heads has room for.
 const FEW_OPERATIONS: usize = 64;
 
+// How many the middle one has room for.
 const SOME_OPERATIONS: usize = 256;
 
+// How many tasks the smaller table of one machine's tasks has room for.
 const FEW_TASKS: usize = 16;
 
+// How many the greatest table of either kind has room for: all operations of a shop.
 const MOST_OPERATIONS: usize = MAX_OPERATIONS as usize;
 
 /// The job-shop problem: when to start each operation of some jobs, so that the last one ends early. A node

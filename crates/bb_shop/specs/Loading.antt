@@ -3,9 +3,13 @@ use Rattle.std.specs.Prelude.{ℕ, ◌+◌, List, min, nat_eq, if◌then◌else�
 use Rattle.bb_shop.specs.declared.machine_load.MachineLoad.{MachineLoad}
 use Rattle.bb_shop.specs.Bounds.{Load, Idle, Busy}
 
+-- the least head and the least tail of no operations: the greatest number of 32 bits
+abbrev pub no_least : ℕ
+no_least = 4294967295
+
 -- Of no operations: the least head and the least tail are the greatest numbers, and the time is 0.
 abbrev pub unloaded : MachineLoad
-unloaded = record { head = 4294967295; time = 0; tail = 4294967295 }
+unloaded = record { head = no_least; time = 0; tail = no_least }
 
 -- with what more operations ask of the machine
 abbrev pub with_load : MachineLoad → Load → MachineLoad
@@ -18,4 +22,4 @@ load_in loads m = slice_index_or loads m unloaded
 
 -- the bound of a load: its least head, its time and its least tail, and 0 of no operations
 abbrev pub machine_bound_of : MachineLoad → ℕ
-machine_bound_of l = if nat_eq l.head 4294967295 then 0 else l.head + l.time + l.tail
+machine_bound_of l = if nat_eq l.head no_least then 0 else l.head + l.time + l.tail

@@ -4,7 +4,7 @@ use Rattle.inst_text.specs.declared.shop.Operation.{Operation}
 use Rattle.inst_text.specs.Shop.{JobShop}
 
 -- an operation on this machine that takes this time
-abbrev on : ℕ → ℕ → Operation
+abbrev pub on : ℕ → ℕ → Operation
 on m t = record { machine = m; time = t }
 
 abbrev pub ft06 : JobShop

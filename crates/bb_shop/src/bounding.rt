@@ -20,8 +20,8 @@ const SOME: usize = 16;
 
 const MOST: usize = MAX_MACHINES as usize;
 
-/// When a job that is ready at this time has finished these operations at the earliest. It adds to the
-/// machines' loads what the operations ask of them. One pass.
+// When a job that is ready at this time has finished these operations at the earliest. It adds to the
+// machines' loads what the operations ask of them. One pass.
 fn run_job(ops: &[PreparedOperation], machines: &[u32], from: u32, loads: &mut [MachineLoad]) -> u32
     requires tails { HaveTails ops.now }
     requires named { AllByRecursion (λ p. p.operation.machine < length machines.now) ops.now }
@@ -74,8 +74,8 @@ impl Shop {
         }
     }
 
-    /// The same, with a table of so many loads. A function clears all of its tables when it is entered, so each size
-    /// has a function of its own.
+    // The same, with a table of so many loads. A function clears all of its tables when it is entered, so each size
+    // has a function of its own.
     fn bound_with<const N: usize>(&self, steps: &[u8], jobs: &[u32], machines: &[u32]) -> u32
         requires fit { FitTo self.now steps.now jobs.now machines.now }
         requires places { length machines.now ≤ N }
@@ -85,7 +85,7 @@ impl Shop {
         self.bound_over(steps, jobs, machines, &mut [UNLOADED; N])
     }
 
-    /// The same, with a table of loads of no operations, for as many machines at least as there are.
+    // The same, with a table of loads of no operations, for as many machines at least as there are.
     fn bound_over(
         &self,
         steps: &[u8],
@@ -104,8 +104,8 @@ impl Shop {
         finish.max(greatest_of(machines).max(machine_bound))
     }
 
-    /// When the last job finishes at the earliest. It adds to the machines' loads, which are those of no
-    /// operations, what the operations that are left ask of them. One pass over these operations.
+    // When the last job finishes at the earliest. It adds to the machines' loads, which are those of no
+    // operations, what the operations that are left ask of them. One pass over these operations.
     fn last_finish(
         &self,
         steps: &[u8],

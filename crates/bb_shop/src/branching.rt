@@ -1,8 +1,9 @@
 //! The children of a node, and the plan of a node that has none.
-ghost use Rattle.std.specs.Prelude.{ℕ, List, ◌≡◌, ◌↔◌, ◌≤◌, ◌<◌, ◌^◌, length, map, All, IsTrue, IfOk};
+ghost use Rattle.std.specs.Prelude.{ℕ, List, ◌≡◌, ◌↔◌, ◌≤◌, ◌<◌, length, map, All, IsTrue, IfOk};
 ghost use Rattle.inst_text.specs.Limits.{max_jobs};
 ghost use Rattle.inst_text.specs.Shop.{IsJobShop};
 ghost use Rattle.bb_problem.specs.Expanding.{StandBelow};
+ghost use Rattle.bb_problem.specs.Limits.{cost_limit};
 ghost use Rattle.bb_shop.specs.Plans.{makespan};
 ghost use Rattle.bb_shop.specs.Dispatching.{state_of};
 ghost use Rattle.bb_shop.specs.Branching.{Stands};
@@ -22,7 +23,7 @@ const MOST_JOBS: usize = MAX_JOBS as usize;
 /// Some jobs of a shop. It takes no memory.
 pub type SomeJobs = ArrayVec<u8, { MOST_JOBS }>;
 
-/// The jobs that have fewer steps done than there are machines, in order. One pass.
+// The jobs that have fewer steps done than there are machines, in order. One pass.
 fn left(steps: &[u8], machines: usize) -> SomeJobs
     requires { length steps.now ≤ max_jobs }
     ensures { result.items ≡ left_in machines steps.now }
@@ -93,7 +94,7 @@ impl Shop {
 
     /// The start times of the operations that a node has dispatched. O(n) in the number of operations.
     pub fn starts_of(&self, alloc: Global, node: &ShopNode) -> Result<Starts, NoMemory>
-        ensures range { IfOk result (λ starts. makespan self.now starts < 2 ^ 26) }
+        ensures range { IfOk result (λ starts. makespan self.now starts < cost_limit) }
         ensures starts { IfOk result (λ starts. (name : List ℕ) → Stands self.now node.now name →
             starts ≡ (state_of self.now name).starts) }
     {

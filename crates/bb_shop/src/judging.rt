@@ -39,7 +39,7 @@ pub fn judged(jobs: &Jobs, starts: &Starts, stated: u32) -> ShopVerdict
     ShopVerdict::Feasible
 }
 
-/// The operations of this job. Constant time.
+// The operations of this job. Constant time.
 fn row_of(jobs: &Jobs, job: usize) -> &[Operation]
     requires { job < length jobs.now.rows }
     ensures row { result.now ≡ row_at jobs.now.rows job }
@@ -48,7 +48,7 @@ fn row_of(jobs: &Jobs, job: usize) -> &[Operation]
     jobs.rows[job].as_slice()
 }
 
-/// The start times of this job's operations. Constant time.
+// The start times of this job's operations. Constant time.
 fn times_of(starts: &Starts, job: usize) -> &[u32]
     requires { job < length starts.now }
     ensures times { result.now ≡ times_at starts.now job }
@@ -57,7 +57,7 @@ fn times_of(starts: &Starts, job: usize) -> &[u32]
     starts.rows[job].as_slice()
 }
 
-/// The first step of the row whose operation starts before the end of the one before it. One pass.
+// The first step of the row whose operation starts before the end of the one before it. One pass.
 fn early_in(row: &[Operation], times: &[u32]) -> Option<usize>
     requires { AreTimed row.now times.now }
     ensures { Finds (IsEarlyIn row.now times.now) result }
@@ -73,7 +73,7 @@ fn early_in(row: &[Operation], times: &[u32]) -> Option<usize>
     None
 }
 
-/// The first operation, by job and step, that starts before the end of the one before it in its job. One pass.
+// The first operation, by job and step, that starts before the end of the one before it in its job. One pass.
 fn first_early(jobs: &Jobs, starts: &Starts) -> Option<OperationId>
     requires { AreShaped jobs.now starts.now }
     ensures first { FindsOperation (IsEarlyAt jobs.now starts.now) result }
@@ -87,7 +87,7 @@ fn first_early(jobs: &Jobs, starts: &Starts) -> Option<OperationId>
     None
 }
 
-/// The first step of the row, from this one on, whose operation overlaps with the booking. One pass.
+// The first step of the row, from this one on, whose operation overlaps with the booking. One pass.
 fn overlap_in(booking: Booking, row: &[Operation], times: &[u32], from: usize) -> Option<usize>
     requires { AreTimed row.now times.now }
     ensures { Finds (OverlapsIn booking row.now times.now from) result }
@@ -100,7 +100,7 @@ fn overlap_in(booking: Booking, row: &[Operation], times: &[u32], from: usize) -
     None
 }
 
-/// The first later operation, by job and step, that overlaps with this one on its machine. One pass.
+// The first later operation, by job and step, that overlaps with this one on its machine. One pass.
 fn overlap_after(jobs: &Jobs, starts: &Starts, job: usize, step: usize) -> Option<OperationId>
     requires shaped { AreShaped jobs.now starts.now }
     requires operation { IsOperation jobs.now job step }
@@ -120,7 +120,7 @@ fn overlap_after(jobs: &Jobs, starts: &Starts, job: usize, step: usize) -> Optio
     None
 }
 
-/// The first two operations that overlap on a machine, the one of this job. A pass for each step.
+// The first two operations that overlap on a machine, the one of this job. A pass for each step.
 fn overlap_of(jobs: &Jobs, starts: &Starts, job: usize) -> Option<Pair>
     requires shaped { AreShaped jobs.now starts.now }
     requires job { job < length jobs.now.rows }
@@ -135,8 +135,8 @@ fn overlap_of(jobs: &Jobs, starts: &Starts, job: usize) -> Option<Pair>
     None
 }
 
-/// The first two operations, by job and step of the one and then of the other, that overlap on a machine. A pass
-/// for each operation.
+// The first two operations, by job and step of the one and then of the other, that overlap on a machine. A pass
+// for each operation.
 fn first_overlap(jobs: &Jobs, starts: &Starts) -> Option<Pair>
     requires { AreShaped jobs.now starts.now }
     ensures { FindsPair (Overlap jobs.now starts.now) result }

@@ -7,7 +7,7 @@ ghost use Rattle.bb_shop.specs.Plans.{row_end, makespan};
 
 use inst_text::{Jobs, Operation, Starts};
 
-/// The greatest end of operations that start at these times, and 0 of none. One pass.
+// The greatest end of operations that start at these times, and 0 of none. One pass.
 fn row_end(row: &[Operation], times: &[u32]) -> u32
     requires times { row_time row.now ≤ max_total }
     requires starts { AllByRecursion (λ (t : ℕ). t ≤ max_total) times.now }

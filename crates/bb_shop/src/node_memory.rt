@@ -40,30 +40,35 @@ pub(crate) enum NodeMemory {
     Most(Box<MostMemory>),
 }
 
+/// Room for `TINY_TIMES` ready times and `TINY_BYTES` numbers below 256.
 #[derive(Clone, Copy, Debug)]
 pub(crate) struct TinyMemory {
     times: [u32; TINY_TIMES],
     bytes: [u8; TINY_BYTES],
 }
 
+/// Room for `SMALL_TIMES` ready times and `SMALL_BYTES` numbers below 256.
 #[derive(Clone, Copy, Debug)]
 pub(crate) struct SmallMemory {
     times: [u32; SMALL_TIMES],
     bytes: [u8; SMALL_BYTES],
 }
 
+/// Room for `MIDDLE_TIMES` ready times and `MIDDLE_BYTES` numbers below 256.
 #[derive(Clone, Copy, Debug)]
 pub(crate) struct MiddleMemory {
     times: [u32; MIDDLE_TIMES],
     bytes: [u8; MIDDLE_BYTES],
 }
 
+/// Room for `LARGE_TIMES` ready times and `LARGE_BYTES` numbers below 256.
 #[derive(Clone, Copy, Debug)]
 pub(crate) struct LargeMemory {
     times: [u32; LARGE_TIMES],
     bytes: [u8; LARGE_BYTES],
 }
 
+/// Room for `MOST_TIMES` ready times and `MOST_BYTES` numbers below 256.
 #[derive(Clone, Copy, Debug)]
 pub(crate) struct MostMemory {
     times: [u32; MOST_TIMES],
@@ -184,7 +189,8 @@ impl NodeMemory {
         ensures times { IfOk result (λ m.
             times_of m ≡ set (set (times_of self.now) change.job change.end) change.machine change.end) }
         ensures bytes { IfOk result (λ m. bytes_of m ≡ set
-            (set (bytes_of self.now) change.job (number_in (bytes_of self.now) change.job + 1)) change.place change.job) }
+            (set (bytes_of self.now) change.job (number_in (bytes_of self.now) change.job + 1))
+            change.place change.job) }
     {
         match self {
             NodeMemory::Tiny(memory) => {

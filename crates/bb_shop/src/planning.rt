@@ -10,8 +10,8 @@ use pq_io::NoMemory;
 use std::alloc::Global;
 use std::marker::Model;
 
-/// What has been dispatched: the start times of each job's first operations, and when each job and each machine
-/// is ready.
+// What has been dispatched: the start times of each job's first operations, and when each job and each machine
+// is ready.
 #[derive(Drop)]
 struct Schedule {
     starts: Vec<Vec<u32>>,
@@ -33,7 +33,7 @@ impl Model for Schedule {
 }
 
 impl Schedule {
-    /// Nothing is dispatched. O(n) in the number of jobs and machines.
+    // Nothing is dispatched. O(n) in the number of jobs and machines.
     fn opened(alloc: Global, shop: &Shop) -> Result<Schedule, NoMemory>
         ensures opened { IfOk result (λ st. st ≡ opened shop.now) }
         ensures within_limits { IsJobShop shop.now }
@@ -50,7 +50,7 @@ impl Schedule {
         })
     }
 
-    /// The step that the job comes to next. Constant time.
+    // The step that the job comes to next. Constant time.
     fn step(&self, job: usize) -> usize
         requires { job < length self.now.starts }
         ensures { result ≡ step_of self.now job }
@@ -58,12 +58,13 @@ impl Schedule {
         self.starts[job].len()
     }
 
-    /// The schedule with this operation of the job dispatched. Constant time, but for the times when a row grows.
+    // The schedule with this operation of the job dispatched. Constant time, but for the times when a row grows.
     fn with(self, operation: Operation, job: usize) -> Result<Schedule, NoMemory>
         requires row { job < length self.starts }
         requires job { job < length self.jobs }
         requires machine { operation.machine < length self.machines }
-        requires end { max (number_in self.jobs job) (number_in self.machines operation.machine) + operation.time < 2 ^ 32 }
+        requires end { max (number_in self.jobs job) (number_in self.machines operation.machine) + operation.time
+            < 2 ^ 32 }
         ensures { IfOk result (λ st. st ≡ dispatched_by self operation job) }
     {
         let Schedule {
@@ -84,7 +85,7 @@ impl Schedule {
     }
 }
 
-/// Dispatches the job's next operation, where it has one left. Constant time, but for the times when a row grows.
+// Dispatches the job's next operation, where it has one left. Constant time, but for the times when a row grows.
 fn dispatch(shop: &Shop, schedule: Schedule, job: usize) -> Result<Schedule, NoMemory>
     requires { IsReached shop.now schedule }
     ensures left { IfOk result (λ st. IsLeft shop.now schedule job → st ≡ dispatched shop.now schedule job) }

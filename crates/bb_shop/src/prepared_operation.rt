@@ -17,7 +17,7 @@ pub struct PreparedOperation {
     pub tail: u32,
 }
 
-/// The sum of the times of a job. One pass.
+// The sum of the times of a job. One pass.
 fn time_of(row: &[Operation]) -> u32
     requires { row_time row.now ≤ max_total }
     ensures { result ≡ row_time row.now }
@@ -29,7 +29,7 @@ fn time_of(row: &[Operation]) -> u32
     time
 }
 
-/// Adds the operations of a job to the table. One pass.
+// Adds the operations of a job to the table. One pass.
 fn add_row(table: &mut Vec<PreparedOperation>, row: &[Operation]) -> Result<(), NoMemory>
     requires { row_time row.now ≤ max_total }
     ensures { OnOk result (table.new.items ≡ table.old.items ++ prepared_row row.now) }

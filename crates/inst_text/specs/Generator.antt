@@ -7,6 +7,7 @@ use Rattle.pq_model.specs.declared.marks.Act.{Act}
 use Rattle.pq_model.specs.declared.marks.Act.TheVariants.{Insert, Remove}
 use Rattle.inst_text.specs.declared.knapsack.Item.{Item}
 use Rattle.inst_text.specs.declared.shop.Operation.{Operation}
+use Rattle.inst_text.specs.Limits.{max_made_number, max_made_time}
 use Rattle.inst_text.specs.Knapsack.{Instance}
 use Rattle.inst_text.specs.Shop.{JobShop}
 
@@ -32,13 +33,13 @@ each_below n f = map f (range_with_len 0 n)
 
 -- The item that is made in this state by two draws.
 abbrev pub item_from : ℕ → Item
-item_from s = record { weight = 1 + drawn s 100; value = 1 + drawn (next_state s) 100 }
+item_from s = record { weight = 1 + drawn s max_made_number; value = 1 + drawn (next_state s) max_made_number }
 
 -- so many items
 abbrev pub made_items : ℕ → ℕ → List Item
 made_items seed size = each_below size (λ i. item_from (state_after seed (2 * i)))
 
--- They weigh twice as much as the knapsack takes.
+-- The knapsack takes half of what they weigh, rounded down.
 abbrev pub made_knapsack : ℕ → ℕ → Instance
 made_knapsack seed size = record {
   capacity = sum_by (λ (i : Item). i.weight) (made_items seed size) / 2;
@@ -50,7 +51,7 @@ made_knapsack seed size = record {
 abbrev pub made_operation : ℕ → ℕ → ℕ → ℕ → Operation
 made_operation seed size n k = record {
   machine = (drawn (state_after seed n) size + k) % size;
-  time = 1 + drawn (state_after seed (n + 1 + k)) 20;
+  time = 1 + drawn (state_after seed (n + 1 + k)) max_made_time;
 }
 
 -- so many operations of that job

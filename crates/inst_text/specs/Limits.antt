@@ -46,6 +46,14 @@ max_commands = 1048576
 abbrev pub max_made_shop : ℕ
 max_made_shop = 32
 
+-- the greatest weight and the greatest value of an item that is made
+abbrev pub max_made_number : ℕ
+max_made_number = 100
+
+-- the greatest time of an operation that is made
+abbrev pub max_made_time : ℕ
+max_made_time = 20
+
 -- how many inserts a lane that is made has at most
 abbrev pub max_made_inserts : ℕ
 max_made_inserts = 1000

@@ -1,6 +1,7 @@
 //! The limits of instances, plans and scripts.
 
 use pq_model::MAX_SEATS;
+use pq_words::KEY_LIMIT;
 
 /// How many items a knapsack has at most.
 pub const MAX_ITEMS: u32 = 1_024;
@@ -16,7 +17,7 @@ pub const MAX_MACHINES: u32 = 100;
 pub const MAX_OPERATIONS: u32 = 1_024;
 /// What the values of all items, or the times of all operations, add up to at most. No start time is above it
 /// either.
-pub const MAX_TOTAL: u32 = 67_108_863;
+pub const MAX_TOTAL: u32 = KEY_LIMIT - 1;
 /// The greatest number that may be stated for a plan.
 pub const MAX_STATED: u32 = u32::MAX;
 /// How many lanes a script has at most: one for each seat of a queue.

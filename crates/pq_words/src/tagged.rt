@@ -12,7 +12,7 @@ const TAGS: u64 = RAW_LIMIT;
 // An owner less 1, times this, leaves room for a tag.
 const OWNERS: u64 = TAGS * 4;
 
-// The word of this tag, this owner, where 0 is none, and the number of an entry.
+/// The word of this tag, this owner, where 0 is none, and the number of an entry.
 pub fn tagged(tag: u64, owner: u32, raw: u64) -> u64
     requires tag { tag < 4 }
     requires owner { owner ≤ max_owner }
@@ -22,21 +22,21 @@ pub fn tagged(tag: u64, owner: u32, raw: u64) -> u64
     raw + tag * TAGS + u64::from(owner.saturating_sub(1)) * OWNERS
 }
 
-// The number in bits 0 to 47.
+/// The number in bits 0 to 47.
 pub fn raw_in(word: u64) -> u64
     ensures { result ≡ word % 2 ^ 48 }
 {
     word % TAGS
 }
 
-// The tag in bits 48 and 49.
+/// The tag in bits 48 and 49.
 pub fn tag_in(word: u64) -> u64
     ensures { result ≡ word / 2 ^ 48 % 4 }
 {
     word / TAGS % 4
 }
 
-// The owner whose number less 1 stands from bit 50 on.
+/// The owner whose number less 1 stands from bit 50 on.
 pub fn owner_in(word: u64) -> u32
     ensures { result ≡ word / 2 ^ 50 + 1 }
 {

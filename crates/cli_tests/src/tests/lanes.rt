@@ -1,4 +1,5 @@
-//! Lanes on the heap: two whose insertions meet in the middle of their work, and drills, with the workers of their searches.
+//! Lanes on the heap: two whose insertions meet in the middle of their work, and drills, with the workers of their
+//! searches.
 
 use super::run_with;
 use pq_api::{Open, Pair, Point};
@@ -16,9 +17,9 @@ fn two_insertions_meet(rt: HostRuntime) -> Result<(), Fail> {
     Ok(())
 }
 
-// Two lanes of a drill are at work at once, and then two workers of its search: the first insertion is held in the middle
-// of its work until the other lane's comes there, and the second node that is taken until a third is. The search's own
-// first insertion comes before any worker starts.
+// Two lanes of a drill are at work at once, and then two workers of its search: the first insertion is held in the
+// middle of its work until the other lane's comes there, and the second node that is taken until a third is. The
+// search's own first insertion comes before any worker starts.
 #[test]
 fn lanes_and_workers_of_a_drill_meet(rt: HostRuntime) -> Result<(), Fail> {
     for (point, skip) in [(Point::HeapBusy, 0), (Point::WorkerNode, 1)] {

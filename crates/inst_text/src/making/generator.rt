@@ -20,7 +20,7 @@ impl Generator {
         }
     }
 
-    /// Makes a step.
+    // Makes a step.
     #[tactic(auto, unfolding(crate::specs::Generator::next_state))]
     fn step(&mut self)
         ensures { self.new.state ≡ next_state self.old.state }

@@ -1,7 +1,7 @@
 //! Making a knapsack.
 
 ghost use Rattle.std.specs.Prelude.{◌≡◌, ◌≤◌, IfOk};
-ghost use Rattle.inst_text.specs.Limits.{max_items};
+ghost use Rattle.inst_text.specs.Limits.{max_items, max_made_number};
 ghost use Rattle.inst_text.specs.Generator.{next_state, item_from, made_knapsack};
 
 use crate::knapsack::{Item, Items};
@@ -15,7 +15,7 @@ const MOST: u32 = 100;
 // An item whose weight and value are drawn.
 fn next_item(generator: &mut Generator) -> Item
     ensures item { result ≡ item_from generator.old.state }
-    ensures weight { result.weight ≤ 100 }
+    ensures weight { result.weight ≤ max_made_number }
     ensures state { generator.new.state ≡ next_state (next_state generator.old.state) }
 {
     let weight = 1 + generator.draw(MOST);

@@ -4,6 +4,7 @@ ghost use Rattle.pq_io.specs.Streams.{Rose};
 ghost use Rattle.pq_io.specs.Gathering.{WritesPrefix};
 ghost use Rattle.pq_io.specs.Writing.{words_text};
 ghost use Rattle.pq_model.specs.declared.marks.Mark.{Mark};
+ghost use Rattle.pq_tape.specs.Limits.{held_room, longest_line};
 ghost use Rattle.pq_tape.specs.Pending.{IsStillPending};
 ghost use Rattle.pq_tape.specs.HistoryText.{HasLine, head_words, call_words, mark_words, left_words, history_text};
 
@@ -24,7 +25,7 @@ const LONGEST_LINE: usize = 128;
 type Held = ArrayString<HELD>;
 
 fn push_number(held: &mut Held, number: u64)
-    requires { length held.old.bytes + 20 ≤ 4096 }
+    requires { length held.old.bytes + 20 ≤ held_room }
     ensures text { held.new.bytes ≡ held.old.bytes ++ decimal number }
     ensures short { length held.new.bytes ≤ length held.old.bytes + 20 }
 {
@@ -33,7 +34,7 @@ fn push_number(held: &mut Held, number: u64)
 
 // A key, a space, and an id.
 fn push_entry(held: &mut Held, entry: Entry)
-    requires { length held.old.bytes + 41 ≤ 4096 }
+    requires { length held.old.bytes + 41 ≤ held_room }
     ensures text { held.new.bytes ≡ held.old.bytes ++ decimal entry.key ++ 32 ∷ decimal entry.id }
     ensures short { length held.new.bytes ≤ length held.old.bytes + 41 }
 {
@@ -44,7 +45,7 @@ fn push_entry(held: &mut Held, entry: Entry)
 
 // `+`, an entry, and how it was answered.
 fn push_insert(held: &mut Held, added: Entry, answer: &str)
-    requires { length held.old.bytes + 43 + length answer.now ≤ 4096 }
+    requires { length held.old.bytes + 43 + length answer.now ≤ held_room }
     ensures text { held.new.bytes ≡
         held.old.bytes ++ 43 ∷ 32 ∷ (decimal added.key ++ 32 ∷ (decimal added.id ++ answer.now)) }
     ensures short { length held.new.bytes ≤ length held.old.bytes + 43 + length answer.now }
@@ -56,7 +57,7 @@ fn push_insert(held: &mut Held, added: Entry, answer: &str)
 
 // `<` and a limit.
 fn push_limit(held: &mut Held, limit: u32)
-    requires { length held.old.bytes + 22 ≤ 4096 }
+    requires { length held.old.bytes + 22 ≤ held_room }
     ensures text { held.new.bytes ≡ held.old.bytes ++ 60 ∷ 32 ∷ decimal limit }
     ensures short { length held.new.bytes ≤ length held.old.bytes + 22 }
 {
@@ -66,7 +67,7 @@ fn push_limit(held: &mut Held, limit: u32)
 
 // What stands behind the seat.
 fn push_call(held: &mut Held, act: Act, reply: Reply)
-    requires room { length held.old.bytes + 80 ≤ 4096 }
+    requires room { length held.old.bytes + 80 ≤ held_room }
     requires line { HasLine act reply }
     ensures text { held.new.bytes ≡ held.old.bytes ++ words_text (call_words act reply) }
     ensures short { length held.new.bytes ≤ length held.old.bytes + 80 }
@@ -98,7 +99,7 @@ fn push_call(held: &mut Held, act: Act, reply: Reply)
 
 // The first line.
 fn push_head(held: &mut Held, head: Head)
-    requires { length held.old.bytes + 128 ≤ 4096 }
+    requires { length held.old.bytes + longest_line ≤ held_room }
     ensures { held.new.bytes ≡ held.old.bytes ++ words_text (head_words head) ++ 10 ∷ [] }
 {
     held.push_str("seats ");
@@ -110,7 +111,7 @@ fn push_head(held: &mut Held, head: Head)
 
 // The line of the mark with this place.
 fn push_mark(held: &mut Held, place: u64, mark: Mark)
-    requires room { length held.old.bytes + 128 ≤ 4096 }
+    requires room { length held.old.bytes + longest_line ≤ held_room }
     requires line { HasLine mark.act mark.reply }
     ensures { held.new.bytes ≡ held.old.bytes ++ words_text (mark_words place mark) ++ 10 ∷ [] }
 {
@@ -124,7 +125,7 @@ fn push_mark(held: &mut Held, place: u64, mark: Mark)
 
 // The last line.
 fn push_left(held: &mut Held, left: u32)
-    requires { length held.old.bytes + 128 ≤ 4096 }
+    requires { length held.old.bytes + longest_line ≤ held_room }
     ensures { held.new.bytes ≡ held.old.bytes ++ words_text (left_words left) ++ 10 ∷ [] }
 {
     held.push_str("left ");
@@ -134,7 +135,7 @@ fn push_left(held: &mut Held, left: u32)
 
 // Makes room for one more line: where there is too little, what is held goes to the sink.
 fn make_room<K: Sink>(sink: &mut K, held: &mut Held) -> Result<(), Failed>
-    ensures room { OnOk result (length held.new.bytes + 128 ≤ 4096) }
+    ensures room { OnOk result (length held.new.bytes + longest_line ≤ held_room) }
     ensures kept { OnOk result
         (IsStillPending (K.written sink.old) held.old.bytes (K.written sink.new) held.new.bytes) }
     ensures counted { K.faults sink.old ≤ K.faults sink.new }
