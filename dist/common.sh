@@ -14,10 +14,11 @@ done
 
 # The files that the program is made of, and that say what is promised of it: the code with its contracts, the
 # definitions that these cite, the list of crates, and what the program may use of the system. Proofs are not among
-# them: they change neither, and the gate checks them in each checkout. Where git knows the files, those that it does
-# not track do not count.
+# them: they change neither, and the gate checks them in each checkout. Where git knows the files, those that it ignores
+# do not count. Those that it does not track yet do, since dist/build takes them into the program.
 list_sources() {
-    git ls-files -z -- crates.txt HANDLES 'crates/*/src/*' 'crates/*/specs/*' 2>/dev/null | grep -z . ||
+    git ls-files -z --cached --others --exclude-standard -- \
+        crates.txt HANDLES 'crates/*/src/*' 'crates/*/specs/*' 2>/dev/null | grep -z . ||
         find crates.txt HANDLES crates/*/src crates/*/specs -type f -print0
 }
 
@@ -31,10 +32,11 @@ is_built_from() {
     [ -x "$1/pq" ] && grep -qsx "sources $2" "$1/built-from" && (cd "$1" && sha256sum --status -c pq.sha256 2>/dev/null)
 }
 
-# Puts the program $2 into the folder $1, as built from sources with the digest $3 by the toolchain with the version $4.
+# Puts the program $2 into the folder $1, as built from sources with the digest $3 by the toolchain of the version $4.
 # Each file is put in place whole, and the one that vouches for the others last.
 put_program() {
-    mkdir -p "$1" && rm -f "$1/built-from" && cp "$2" "$1/pq.new" && chmod 755 "$1/pq.new" && mv -f "$1/pq.new" "$1/pq" &&
+    mkdir -p "$1" && rm -f "$1/built-from" &&
+        cp "$2" "$1/pq.new" && chmod 755 "$1/pq.new" && mv -f "$1/pq.new" "$1/pq" &&
         (cd "$1" && sha256sum pq >pq.sha256) &&
         printf 'sources %s\ntoolchain %s\n' "$3" "$4" >"$1/built-from.new" && mv -f "$1/built-from.new" "$1/built-from"
 }
