@@ -147,6 +147,7 @@ impl Knapsack {
 
     /// The values of all items, but this one, and at most what the items from this place of the order on bring with
     /// this room. O(log n).
+    #[inline(always)]
     pub(crate) fn bound_at(&self, from: usize, room: u64, value: u32) -> u32
         requires from { from ≤ length self.now.items }
         requires room { room ≤ max_knapsack_capacity }

@@ -56,6 +56,7 @@ impl Problem for Knapsack {
 
     /// The plan of a node that decides on all items, else the child that takes the next item, where it fits, and
     /// the child that leaves it. A child takes time to copy its decisions, a plan O(n log n).
+    #[inline(always)]
     fn expand_into(
         &self,
         alloc: Global,

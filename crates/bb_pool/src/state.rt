@@ -49,7 +49,7 @@ impl<C: OnePass, N: Drop, P: Drop> Search<C, N, P> {
     }
 
     /// Gives the node with this bound the next number, puts it into the store under it, and inserts an entry for it.
-    #[inline]
+    #[inline(always)]
     pub(crate) fn put(&mut self, key: u32, node: N) -> Result<(), Stop>
         requires key { key < key_limit }
         requires few { length self.old.store < id_limit }

@@ -52,7 +52,7 @@ impl<N: Drop> Store<N> {
     }
 
     /// Puts the node under the next number. Constant time, and no memory while there is room.
-    #[inline]
+    #[inline(always)]
     pub(crate) fn push(&mut self, node: N) -> Result<(), NoMemory>
         ensures { OnOk result (self.new ≡ self.old ++ Some node ∷ []) }
     {
