@@ -13,39 +13,39 @@ use Rattle.pq_tape.specs.Pending.{Pending}
 take_behind : (xs ys zs : List ℕ) (n : ℕ) → n ≤ length ys → take (length xs + n) (xs ++ (ys ++ zs)) ≡ xs ++ take n ys
 take_behind xs ys zs n le = take-append-add xs (ys ++ zs) n ∙ ap (λ (t : List ℕ). xs ++ t) (take-append-le n ys zs le)
 
-pub starts : (first : Option (List ℕ)) (held rest whole : List ℕ) → held ++ rest ≡ whole → IfSome first (λ before. Pending held rest whole first before)
-starts None held rest whole e = tt
-starts (Some b) held rest whole e = record { done = []; written = ap (λ (t : List ℕ). Some t) (sym (append-nil b)); parts = e }
+pub starts : (first : Option (List ℕ)) (unsent rest whole : List ℕ) → unsent ++ rest ≡ whole → IfSome first (λ before. Pending unsent rest whole first before)
+starts None unsent rest whole e = tt
+starts (Some b) unsent rest whole e = record { done = []; written = ap (λ (t : List ℕ). Some t) (sym (append-nil b)); parts = e }
 
 -- a line that was to come is held back
-pub grows : (first mid : Option (List ℕ)) (held line rest held' rest' whole : List ℕ) → rest ≡ line ++ rest' → held' ≡ held ++ line
-    → IfSome first (λ before. Pending held rest whole mid before) → IfSome first (λ before. Pending held' rest' whole mid before)
-grows None mid held line rest held' rest' whole e f p = tt
-grows (Some b) mid held line rest held' rest' whole e f p = record {
+pub grows : (first mid : Option (List ℕ)) (unsent line rest unsent' rest' whole : List ℕ) → rest ≡ line ++ rest' → unsent' ≡ unsent ++ line
+    → IfSome first (λ before. Pending unsent rest whole mid before) → IfSome first (λ before. Pending unsent' rest' whole mid before)
+grows None mid unsent line rest unsent' rest' whole e f p = tt
+grows (Some b) mid unsent line rest unsent' rest' whole e f p = record {
   done = p.done;
   written = p.written;
   parts = ap (λ (t : List ℕ). p.done ++ t) (rw (e, f) (simp append_assoc)) ∙ p.parts;
 }
 
 -- the last that was held back is written
-pub ends : (first mid last : Option (List ℕ)) (held whole : List ℕ) → IfSome first (λ before. Pending held [] whole mid before) → IfSome mid (λ written. last ≡ Some (written ++ held)) → IfSome first (λ before. last ≡ Some (before ++ whole))
-ends None mid last held whole p q = tt
-ends (Some b) mid last held whole p q =
-    let now : last ≡ Some ((b ++ p.done) ++ held) = (rw p.written at q) in
-    let parts : p.done ++ held ≡ whole = ap (λ (t : List ℕ). p.done ++ t) (sym (append-nil held)) ∙ p.parts in
+pub ends : (first mid last : Option (List ℕ)) (unsent whole : List ℕ) → IfSome first (λ before. Pending unsent [] whole mid before) → IfSome mid (λ written. last ≡ Some (written ++ unsent)) → IfSome first (λ before. last ≡ Some (before ++ whole))
+ends None mid last unsent whole p q = tt
+ends (Some b) mid last unsent whole p q =
+    let now : last ≡ Some ((b ++ p.done) ++ unsent) = (rw p.written at q) in
+    let parts : p.done ++ unsent ≡ whole = ap (λ (t : List ℕ). p.done ++ t) (sym (append-nil unsent)) ∙ p.parts in
     now ∙ ap (λ (t : List ℕ). Some t) (rw (append_assoc, parts) refl)
 
 -- a write of what was held back failed: a front of the whole is written
-pub fails : (first mid last : Option (List ℕ)) (held rest whole : List ℕ) → IfSome first (λ before. Pending held rest whole mid before) → IfSome mid (λ written. WritesPrefix written held last) → IfSome first (λ before. WritesPrefix before whole last)
-fails None mid last held rest whole p q = tt
-fails (Some b) mid last held rest whole p q =
-    let w : WritesPrefix (b ++ p.done) held last = (rw p.written at q) in
-    let le : w.count ≤ length held = omega (arith, w.short) in
-    let cut : take (length p.done + w.count) (p.done ++ (held ++ rest)) ≡ p.done ++ take w.count held = take_behind p.done held rest w.count le in
+pub fails : (first mid last : Option (List ℕ)) (unsent rest whole : List ℕ) → IfSome first (λ before. Pending unsent rest whole mid before) → IfSome mid (λ written. WritesPrefix written unsent last) → IfSome first (λ before. WritesPrefix before whole last)
+fails None mid last unsent rest whole p q = tt
+fails (Some b) mid last unsent rest whole p q =
+    let w : WritesPrefix (b ++ p.done) unsent last = (rw p.written at q) in
+    let le : w.count ≤ length unsent = omega (arith, w.short) in
+    let cut : take (length p.done + w.count) (p.done ++ (unsent ++ rest)) ≡ p.done ++ take w.count unsent = take_behind p.done unsent rest w.count le in
     record {
       count = length p.done + w.count;
-      short = (let e = ap (λ (t : List ℕ). length t) p.parts in omega (arith, e, w.short, length-append p.done (held ++ rest), length-append held rest));
-      prefix = w.prefix ∙ ap (λ (t : List ℕ). Some t) (append_assoc b p.done (take w.count held) ∙ ap (λ (t : List ℕ). b ++ t) (sym cut ∙ ap (λ (t : List ℕ). take (length p.done + w.count) t) p.parts));
+      short = (let e = ap (λ (t : List ℕ). length t) p.parts in omega (arith, e, w.short, length-append p.done (unsent ++ rest), length-append unsent rest));
+      prefix = w.prefix ∙ ap (λ (t : List ℕ). Some t) (append_assoc b p.done (take w.count unsent) ∙ ap (λ (t : List ℕ). b ++ t) (sym cut ∙ ap (λ (t : List ℕ). take (length p.done + w.count) t) p.parts));
     }
 
 -- the line of the next mark stands in front of the lines of the others

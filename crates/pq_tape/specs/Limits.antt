@@ -6,8 +6,8 @@ abbrev pub max_marks : ℕ
 max_marks = 1048576
 
 -- how many bytes are held back before they go to the sink together
-abbrev pub held_room : ℕ
-held_room = 4096
+abbrev pub buffer_room : ℕ
+buffer_room = 4096
 
 -- more than the longest line has
 abbrev pub longest_line : ℕ

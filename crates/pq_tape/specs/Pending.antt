@@ -2,10 +2,10 @@
 use Rattle.std.specs.Prelude.{◌≡◌, ℕ, List, ◌++◌, Option, Some, IfSome}
 
 -- after what stood in the sink before, all of the whole was written that is not held back or still to come
-pub record Pending (held rest whole : List ℕ) (now : Option (List ℕ)) (before : List ℕ) : Type 0 where
+pub record Pending (unsent rest whole : List ℕ) (now : Option (List ℕ)) (before : List ℕ) : Type 0 where
   pub done : List ℕ
   pub written : now ≡ Some (before ++ done)
-  pub parts : done ++ (held ++ rest) ≡ whole
+  pub parts : done ++ (unsent ++ rest) ≡ whole
 
 -- whatever the text was, it is still on its way
 abbrev pub IsStillPending : Option (List ℕ) → List ℕ → Option (List ℕ) → List ℕ → Type 0

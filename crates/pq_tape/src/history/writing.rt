@@ -4,7 +4,7 @@ ghost use Rattle.pq_io.specs.Streams.{Rose};
 ghost use Rattle.pq_io.specs.Gathering.{WritesPrefix};
 ghost use Rattle.pq_io.specs.Writing.{words_text};
 ghost use Rattle.pq_model.specs.declared.marks.Mark.{Mark};
-ghost use Rattle.pq_tape.specs.Limits.{held_room, longest_line};
+ghost use Rattle.pq_tape.specs.Limits.{buffer_room, longest_line};
 ghost use Rattle.pq_tape.specs.Pending.{IsStillPending};
 ghost use Rattle.pq_tape.specs.HistoryText.{HasLine, head_words, call_words, mark_words, left_words, history_text};
 
@@ -16,136 +16,136 @@ use pq_model::{Act, Mark, Reply};
 use pq_words::Entry;
 
 // How many bytes are held back before they go to the sink together.
-const HELD: usize = 4_096;
+const BUFFER: usize = 4_096;
 
 // More than the longest line has.
 const LONGEST_LINE: usize = 128;
 
 // Lines that are written, and did not go to the sink yet.
-type Held = ArrayString<HELD>;
+type Unsent = ArrayString<BUFFER>;
 
-fn push_number(held: &mut Held, number: u64)
-    requires { length held.old.bytes + 20 ≤ held_room }
-    ensures text { held.new.bytes ≡ held.old.bytes ++ decimal number }
-    ensures short { length held.new.bytes ≤ length held.old.bytes + 20 }
+fn push_number(unsent: &mut Unsent, number: u64)
+    requires { length unsent.old.bytes + 20 ≤ buffer_room }
+    ensures text { unsent.new.bytes ≡ unsent.old.bytes ++ decimal number }
+    ensures short { length unsent.new.bytes ≤ length unsent.old.bytes + 20 }
 {
-    held.push_str(Buffer::new().format(number));
+    unsent.push_str(Buffer::new().format(number));
 }
 
 // A key, a space, and an id.
-fn push_entry(held: &mut Held, entry: Entry)
-    requires { length held.old.bytes + 41 ≤ held_room }
-    ensures text { held.new.bytes ≡ held.old.bytes ++ decimal entry.key ++ 32 ∷ decimal entry.id }
-    ensures short { length held.new.bytes ≤ length held.old.bytes + 41 }
+fn push_entry(unsent: &mut Unsent, entry: Entry)
+    requires { length unsent.old.bytes + 41 ≤ buffer_room }
+    ensures text { unsent.new.bytes ≡ unsent.old.bytes ++ decimal entry.key ++ 32 ∷ decimal entry.id }
+    ensures short { length unsent.new.bytes ≤ length unsent.old.bytes + 41 }
 {
-    push_number(held, u64::from(entry.key));
-    held.push_str(" ");
-    push_number(held, u64::from(entry.id));
+    push_number(unsent, u64::from(entry.key));
+    unsent.push_str(" ");
+    push_number(unsent, u64::from(entry.id));
 }
 
 // `+`, an entry, and how it was answered.
-fn push_insert(held: &mut Held, added: Entry, answer: &str)
-    requires { length held.old.bytes + 43 + length answer.now ≤ held_room }
-    ensures text { held.new.bytes ≡
-        held.old.bytes ++ 43 ∷ 32 ∷ (decimal added.key ++ 32 ∷ (decimal added.id ++ answer.now)) }
-    ensures short { length held.new.bytes ≤ length held.old.bytes + 43 + length answer.now }
+fn push_insert(unsent: &mut Unsent, added: Entry, answer: &str)
+    requires { length unsent.old.bytes + 43 + length answer.now ≤ buffer_room }
+    ensures text { unsent.new.bytes ≡
+        unsent.old.bytes ++ 43 ∷ 32 ∷ (decimal added.key ++ 32 ∷ (decimal added.id ++ answer.now)) }
+    ensures short { length unsent.new.bytes ≤ length unsent.old.bytes + 43 + length answer.now }
 {
-    held.push_str("+ ");
-    push_entry(held, added);
-    held.push_str(answer);
+    unsent.push_str("+ ");
+    push_entry(unsent, added);
+    unsent.push_str(answer);
 }
 
 // `<` and a limit.
-fn push_limit(held: &mut Held, limit: u32)
-    requires { length held.old.bytes + 22 ≤ held_room }
-    ensures text { held.new.bytes ≡ held.old.bytes ++ 60 ∷ 32 ∷ decimal limit }
-    ensures short { length held.new.bytes ≤ length held.old.bytes + 22 }
+fn push_limit(unsent: &mut Unsent, limit: u32)
+    requires { length unsent.old.bytes + 22 ≤ buffer_room }
+    ensures text { unsent.new.bytes ≡ unsent.old.bytes ++ 60 ∷ 32 ∷ decimal limit }
+    ensures short { length unsent.new.bytes ≤ length unsent.old.bytes + 22 }
 {
-    held.push_str("< ");
-    push_number(held, u64::from(limit));
+    unsent.push_str("< ");
+    push_number(unsent, u64::from(limit));
 }
 
 // What stands behind the seat.
-fn push_call(held: &mut Held, act: Act, reply: Reply)
-    requires room { length held.old.bytes + 80 ≤ held_room }
+fn push_call(unsent: &mut Unsent, act: Act, reply: Reply)
+    requires room { length unsent.old.bytes + 80 ≤ buffer_room }
     requires line { HasLine act reply }
-    ensures text { held.new.bytes ≡ held.old.bytes ++ words_text (call_words act reply) }
-    ensures short { length held.new.bytes ≤ length held.old.bytes + 80 }
+    ensures text { unsent.new.bytes ≡ unsent.old.bytes ++ words_text (call_words act reply) }
+    ensures short { length unsent.new.bytes ≤ length unsent.old.bytes + 80 }
 {
     match (act, reply) {
-        (Act::Insert(added), Reply::Done) => push_insert(held, added, " done"),
-        (Act::Insert(added), Reply::Full) => push_insert(held, added, " full"),
+        (Act::Insert(added), Reply::Done) => push_insert(unsent, added, " done"),
+        (Act::Insert(added), Reply::Full) => push_insert(unsent, added, " full"),
         (Act::Remove, Reply::Got(taken)) => {
-            held.push_str("- got ");
-            push_entry(held, taken);
+            unsent.push_str("- got ");
+            push_entry(unsent, taken);
         }
-        (Act::Remove, Reply::Empty) => held.push_str("- empty"),
+        (Act::Remove, Reply::Empty) => unsent.push_str("- empty"),
         (Act::RemoveBelow(limit), Reply::Got(taken)) => {
-            push_limit(held, limit);
-            held.push_str(" got ");
-            push_entry(held, taken);
+            push_limit(unsent, limit);
+            unsent.push_str(" got ");
+            push_entry(unsent, taken);
         }
         (Act::RemoveBelow(limit), Reply::Empty) => {
-            push_limit(held, limit);
-            held.push_str(" empty");
+            push_limit(unsent, limit);
+            unsent.push_str(" empty");
         }
         (Act::RemoveBelow(limit), Reply::Above) => {
-            push_limit(held, limit);
-            held.push_str(" above");
+            push_limit(unsent, limit);
+            unsent.push_str(" above");
         }
         _ => unreachable!(),
     }
 }
 
 // The first line.
-fn push_head(held: &mut Held, head: Head)
-    requires { length held.old.bytes + longest_line ≤ held_room }
-    ensures { held.new.bytes ≡ held.old.bytes ++ words_text (head_words head) ++ 10 ∷ [] }
+fn push_head(unsent: &mut Unsent, head: Head)
+    requires { length unsent.old.bytes + longest_line ≤ buffer_room }
+    ensures { unsent.new.bytes ≡ unsent.old.bytes ++ words_text (head_words head) ++ 10 ∷ [] }
 {
-    held.push_str("seats ");
-    push_number(held, u64::from(head.seats));
-    held.push_str(" capacity ");
-    push_number(held, u64::from(head.capacity));
-    held.push_str("\n");
+    unsent.push_str("seats ");
+    push_number(unsent, u64::from(head.seats));
+    unsent.push_str(" capacity ");
+    push_number(unsent, u64::from(head.capacity));
+    unsent.push_str("\n");
 }
 
 // The line of the mark with this place.
-fn push_mark(held: &mut Held, place: u64, mark: Mark)
-    requires room { length held.old.bytes + longest_line ≤ held_room }
+fn push_mark(unsent: &mut Unsent, place: u64, mark: Mark)
+    requires room { length unsent.old.bytes + longest_line ≤ buffer_room }
     requires line { HasLine mark.act mark.reply }
-    ensures { held.new.bytes ≡ held.old.bytes ++ words_text (mark_words place mark) ++ 10 ∷ [] }
+    ensures { unsent.new.bytes ≡ unsent.old.bytes ++ words_text (mark_words place mark) ++ 10 ∷ [] }
 {
-    push_number(held, place);
-    held.push_str(" ");
-    push_number(held, u64::from(mark.seat));
-    held.push_str(" ");
-    push_call(held, mark.act, mark.reply);
-    held.push_str("\n");
+    push_number(unsent, place);
+    unsent.push_str(" ");
+    push_number(unsent, u64::from(mark.seat));
+    unsent.push_str(" ");
+    push_call(unsent, mark.act, mark.reply);
+    unsent.push_str("\n");
 }
 
 // The last line.
-fn push_left(held: &mut Held, left: u32)
-    requires { length held.old.bytes + longest_line ≤ held_room }
-    ensures { held.new.bytes ≡ held.old.bytes ++ words_text (left_words left) ++ 10 ∷ [] }
+fn push_left(unsent: &mut Unsent, left: u32)
+    requires { length unsent.old.bytes + longest_line ≤ buffer_room }
+    ensures { unsent.new.bytes ≡ unsent.old.bytes ++ words_text (left_words left) ++ 10 ∷ [] }
 {
-    held.push_str("left ");
-    push_number(held, u64::from(left));
-    held.push_str("\n");
+    unsent.push_str("left ");
+    push_number(unsent, u64::from(left));
+    unsent.push_str("\n");
 }
 
 // Makes room for one more line: where there is too little, what is held goes to the sink.
-fn make_room<K: Sink>(sink: &mut K, held: &mut Held) -> Result<(), Failed>
-    ensures room { OnOk result (length held.new.bytes + longest_line ≤ held_room) }
+fn make_room<K: Sink>(sink: &mut K, unsent: &mut Unsent) -> Result<(), Failed>
+    ensures room { OnOk result (length unsent.new.bytes + longest_line ≤ buffer_room) }
     ensures kept { OnOk result
-        (IsStillPending (K.written sink.old) held.old.bytes (K.written sink.new) held.new.bytes) }
+        (IsStillPending (K.written sink.old) unsent.old.bytes (K.written sink.new) unsent.new.bytes) }
     ensures counted { K.faults sink.old ≤ K.faults sink.new }
     ensures failed { OnErr result (Rose (K.faults sink.old) (K.faults sink.new)) }
     ensures prefix { OnErr result (IfSome (K.written sink.old)
-        (λ before. WritesPrefix before held.old.bytes (K.written sink.new))) }
+        (λ before. WritesPrefix before unsent.old.bytes (K.written sink.new))) }
 {
-    if held.len() + LONGEST_LINE > HELD {
-        put_all(sink, held.as_str().as_bytes())?;
-        held.clear();
+    if unsent.len() + LONGEST_LINE > BUFFER {
+        put_all(sink, unsent.as_str().as_bytes())?;
+        unsent.clear();
     }
     Ok(())
 }
@@ -172,15 +172,15 @@ pub fn write_history<K: Sink>(
     ensures prefix { OnErr result (IfSome (K.written sink.old)
         (λ before. WritesPrefix before (history_text head marks.now left) (K.written sink.new))) }
 {
-    let mut held = ArrayString::new();
-    push_head(&mut held, head);
+    let mut unsent = ArrayString::new();
+    push_head(&mut unsent, head);
     let mut place = 0;
     for mark in marks {
-        make_room(sink, &mut held)?;
-        push_mark(&mut held, place, *mark);
+        make_room(sink, &mut unsent)?;
+        push_mark(&mut unsent, place, *mark);
         place += 1;
     }
-    make_room(sink, &mut held)?;
-    push_left(&mut held, left);
-    put_all(sink, held.as_str().as_bytes())
+    make_room(sink, &mut unsent)?;
+    push_left(&mut unsent, left);
+    put_all(sink, unsent.as_str().as_bytes())
 }

@@ -9,7 +9,7 @@ use Rattle.pq_tape.proofs.history.writing.write_history.Goals as goal
 pub returns-in_err-make_room-clause-prefix : goal.returns-in_err-make_room-clause-prefix
 returns-in_err-make_room-clause-prefix g c =
     err_with c.from_residual.result
-    (fails (g.K.Sink.written c.args.sink.now) (g.K.Sink.written c.loop-mark.sink) (g.K.Sink.written c.make_room.new.sink) c.loop-mark.held.bytes _ _ c.loop-mark.invariant.pending c.in_err-make_room.ensures.prefix)
+    (fails (g.K.Sink.written c.args.sink.now) (g.K.Sink.written c.loop-mark.sink) (g.K.Sink.written c.make_room.new.sink) c.loop-mark.unsent.bytes _ _ c.loop-mark.invariant.pending c.in_err-make_room.ensures.prefix)
 
 pub loop-mark-preserved : goal.loop-mark-preserved
 loop-mark-preserved g c =
@@ -23,16 +23,16 @@ loop-mark-preserved g c =
       place = omega arith;
       counted = omega arith;
       pending =
-          grows (g.K.Sink.written c.args.sink.now) (g.K.Sink.written c.make_room.new.sink) c.make_room.new.held.bytes (words_text (mark_words i m) ++ 10 ∷ [])
-          (lines_text (marks_lines i (drop i ms) ++ tail)) c.push_mark.new.held.bytes (lines_text (marks_lines (i + 1) (drop (i + 1) ms) ++ tail)) (history_text c.args.head ms c.args.left)
-          (next_mark ms i m tail lt is) (c.push_mark.ensures ∙ append_assoc c.make_room.new.held.bytes (words_text (mark_words i m)) (10 ∷ []))
+          grows (g.K.Sink.written c.args.sink.now) (g.K.Sink.written c.make_room.new.sink) c.make_room.new.unsent.bytes (words_text (mark_words i m) ++ 10 ∷ [])
+          (lines_text (marks_lines i (drop i ms) ++ tail)) c.push_mark.new.unsent.bytes (lines_text (marks_lines (i + 1) (drop (i + 1) ms) ++ tail)) (history_text c.args.head ms c.args.left)
+          (next_mark ms i m tail lt is) (c.push_mark.ensures ∙ append_assoc c.make_room.new.unsent.bytes (words_text (mark_words i m)) (10 ∷ []))
           (c.in_ok-make_room.ensures.kept (g.K.Sink.written c.args.sink.now) (lines_text (marks_lines i (drop i ms) ++ tail)) (history_text c.args.head ms c.args.left) c.loop-mark.invariant.pending);
     }
 
 pub returns-in_err-make_room-2-clause-prefix : goal.returns-in_err-make_room-2-clause-prefix
 returns-in_err-make_room-2-clause-prefix g c =
     err_with c.from_residual-in_err-make_room-2.result
-    (fails (g.K.Sink.written c.args.sink.now) (g.K.Sink.written c.loop-mark.sink) (g.K.Sink.written c.make_room-2.new.sink) c.loop-mark.held.bytes _ _ c.loop-mark.invariant.pending c.in_err-make_room-2.ensures.prefix)
+    (fails (g.K.Sink.written c.args.sink.now) (g.K.Sink.written c.loop-mark.sink) (g.K.Sink.written c.make_room-2.new.sink) c.loop-mark.unsent.bytes _ _ c.loop-mark.invariant.pending c.in_err-make_room-2.ensures.prefix)
 
 -- the last line is held back too, and nothing is to come
 abbrev LastPending : (g : _) → goal.After-put_all g → Type 0
@@ -46,8 +46,8 @@ last_pending g c =
     let line : List ℕ = words_text (left_words c.args.left) ++ 10 ∷ [] in
     let rest : List ℕ = lines_text (marks_lines i (drop i ms) ++ left_words c.args.left ∷ []) in
     let whole : List ℕ = history_text c.args.head ms c.args.left in
-    grows (g.K.Sink.written c.args.sink.now) (g.K.Sink.written c.make_room-2.new.sink) c.make_room-2.new.held.bytes line rest c.as_bytes.result.now [] whole
-    (last_line ms i (left_words c.args.left) le ∙ sym (append-nil line)) (c.as_bytes.ensures.value ∙ c.as_str.ensures.value ∙ c.push_left.ensures ∙ append_assoc c.make_room-2.new.held.bytes (words_text (left_words c.args.left)) (10 ∷ []))
+    grows (g.K.Sink.written c.args.sink.now) (g.K.Sink.written c.make_room-2.new.sink) c.make_room-2.new.unsent.bytes line rest c.as_bytes.result.now [] whole
+    (last_line ms i (left_words c.args.left) le ∙ sym (append-nil line)) (c.as_bytes.ensures.value ∙ c.as_str.ensures.value ∙ c.push_left.ensures ∙ append_assoc c.make_room-2.new.unsent.bytes (words_text (left_words c.args.left)) (10 ∷ []))
     (c.in_ok-make_room-2.ensures.kept (g.K.Sink.written c.args.sink.now) rest whole c.loop-mark.invariant.pending)
 
 pub returns-clause-appended : goal.returns-clause-appended
