@@ -1,5 +1,5 @@
 -- On the bench the other conditions of each call are enough, and a fresh one begins with words of 0.
-use Rattle.std.proofs.Common.{◌≡◌, ◌≢◌, ℕ, zero, suc, ◌+◌, ◌*◌, ◌<◌, ◌≤◌, Bool, true, false, List, [], ◌∷◌, ◌++◌, map, replicate, length, get_or, set, sym, refl, ap, ◌∙◌, subst, arith, Contains, get_or-set_other}
+use Rattle.std.proofs.Common.{◌≡◌, ◌≢◌, ℕ, zero, suc, ◌+◌, ◌*◌, ◌<◌, ◌≤◌, Bool, true, false, List, [], ◌∷◌, map, replicate, length, get_or, set, sym, refl, ap, ◌∙◌, subst, arith, Contains, get_or-set_other}
 use Rattle.std.proofs.lemmas.List.{length-replicate}
 use Rattle.std.specs.Prelude.{MatchBool}
 use mathlib.Core.Option.{some, some-injective, some-ne-none}
@@ -23,7 +23,7 @@ use Rattle.pq_pool.specs.declared.views.PoolState.{PoolState}
 use Rattle.pq_pool.specs.declared.views.PoolView.{PoolView}
 use Rattle.pq_pool.specs.Limits.{max_chunks}
 use Rattle.pq_pool.specs.Layout.{builder_word}
-use Rattle.pq_pool.specs.States.{Agrees}
+use Rattle.pq_pool.specs.States.{live_state, young_state, Agrees}
 use Rattle.pq_pool.specs.Views.{pool_state, unpinned, moved, with_state}
 use Rattle.pq_pool.specs.Parts.{with_pool_post}
 use Rattle.pq_pool.specs.PoolLaws.{NamesAll, NamesWords, MayUnpin, MayMove}
@@ -92,7 +92,7 @@ module _ (k : Limits) where
       }
 
   -- a chunk of the table may become live or young
-  pub may_move : (id : ℕ) (v : View PoolView) (c x : ℕ) → Contains v.post.locks builder_word → (a : NamesAll k v.post.own) → c < a.chunks.count → 2 ≤ x → x ≤ 3 → MayMove bench_rule bench_pool k id v c x
+  pub may_move : (id : ℕ) (v : View PoolView) (c x : ℕ) → Contains v.post.locks builder_word → (a : NamesAll k v.post.own) → c < a.chunks.count → live_state ≤ x → x ≤ young_state → MayMove bench_rule bench_pool k id v c x
   may_move id v c x has a within x_low x_high s h at =
       let b = h.tied in let t = b.pool in let ps = map post_of s.views in let there = at_map post_of s.views id v at in
       let room = t.chunks.room in let less = t.chunks.less in let room' = a.chunks.room in let less' = a.chunks.less in

@@ -12,7 +12,7 @@ use Rattle.pq_seats.specs.Views.{HasFirst}
 use Rattle.pq_seats.specs.Rules.{Rule}
 use Rattle.pq_seats.specs.Seats.{Sits}
 use Rattle.pq_pool.specs.declared.views.PoolView.{PoolView}
-use Rattle.pq_pool.specs.States.{state_of, IsLive, Agrees, turned}
+use Rattle.pq_pool.specs.States.{state_of, live_state, IsLive, Agrees, turned}
 use Rattle.pq_pool.specs.Layout.{builder_word}
 use Rattle.pq_pool.specs.Views.{moved, state_stored, grace_stored, pin_loaded, turned_at}
 use Rattle.pq_pool.specs.Parts.{PoolPart, pool_view, with_pool_view, ChangesPool}
@@ -141,7 +141,7 @@ pub moved_agrees : (seats : ℕ) (v w : PoolView) (c x : ℕ) → length v.store
 moved_agrees seats v w c x long is a = subst (λ (y : PoolView). Agrees seats y.stored y.counted) (sym is) (record { states = λ b. set_both v.stored.states v.counted.states c x b long (a.states b); grace = a.grace })
 
 -- the live chunks stay, where the state of a chunk changes that is not live, or becomes live
-pub moved_live : (v w : PoolView) (b x : ℕ) → w ≡ moved v b x → ¬ IsLive v.counted b ⊎ (x ≡ 2) → (c : ℕ) → IsLive v.counted c → IsLive w.counted c
+pub moved_live : (v w : PoolView) (b x : ℕ) → w ≡ moved v b x → ¬ IsLive v.counted b ⊎ (x ≡ live_state) → (c : ℕ) → IsLive v.counted c → IsLive w.counted c
 moved_live v w b x is other c two = ap (λ (z : PoolView). state_of z.counted c) is ∙ dite (ℕ_discrete c b)
     (λ q. let here : IsLive v.counted b = ap (λ (z : ℕ). state_of v.counted z) (sym q) ∙ two in ⊎_elim (λ ne. absurd (ne here))
     (λ y. ap (λ (z : ℕ). get_or (set v.counted.states b x) z 0) q ∙ (get_or-set_same v.counted.states b x 0 (within_list v.counted.states b (omega arith)) ∙ y))

@@ -47,7 +47,7 @@ bench_lawful = record {
   informed = λ k s h j v l at positive is. tt;
 }
 
-pub bench_pool_laws : PoolLaws bench_rule bench_pool 17
+pub bench_pool_laws : PoolLaws bench_rule bench_pool builder_word
 bench_pool_laws = record {
   builder = refl;
   lock = λ k i. refl;

@@ -9,7 +9,7 @@ use Rattle.pq_seats.specs.declared.views.Post.{Post}
 use Rattle.pq_pool.specs.declared.views.PoolState.{PoolState}
 use Rattle.pq_pool.specs.declared.views.PoolView.{PoolView}
 use Rattle.pq_pool.specs.Layout.{Chunks, builder_word, pin_word, next_word}
-use Rattle.pq_pool.specs.States.{IsInUse, IsSafe, Sized, Written, state_of}
+use Rattle.pq_pool.specs.States.{IsInUse, IsSafe, Sized, Written, state_of, old_state}
 
 -- Of each post `view_of` tells the pool's part
 module _ {O : Type 0} (view_of : O → PoolView) where
@@ -36,7 +36,7 @@ module _ {O : Type 0} (view_of : O → PoolView) where
     -- Each chunk is free, being built, live, young or old. This is how the chunks and the grace bits count
     pub counted : PoolState
     pub sized : Sized chunks.count k.seats counted
-    pub kinds : (c : ℕ) → state_of counted c ≤ 4
+    pub kinds : (c : ℕ) → state_of counted c ≤ old_state
     -- Live chunks link to live ones, young ones to live or young ones, old ones to live, young or old ones; each of
     -- them may also have no link
     pub links : (c next : ℕ) → c < chunks.count → slice_index words (next_word c) ≡ suc next → IsInUse counted c

@@ -3,7 +3,7 @@ use Rattle.std.specs.Prelude.{◌≡◌, ◌≢◌, ◌⊎◌, ℕ, zero, suc, �
 use Rattle.pq_model.specs.History.{IsSeat}
 use Rattle.pq_pool.specs.declared.views.PoolState.{PoolState}
 use Rattle.pq_pool.specs.Layout.{pin_word}
-use Rattle.pq_pool.specs.States.{state_of, grace_of, IsFree, IsLive, IsYoung, IsSafe}
+use Rattle.pq_pool.specs.States.{state_of, grace_of, old_state, IsFree, IsLive, IsYoung, IsSafe}
 use Rattle.pq_pool.specs.Builds.{Rests, Turns}
 
 -- Some chunks become live or young, and the bits stay: a chunk is published or retired, or a rule above makes several
@@ -21,7 +21,7 @@ Goes seats builder words a b = Rests seats words a b ⊎ (Turns seats builder a 
 -- the seat n is pinned, so it is no builder
 pub record WhilePinned (seats n last : ℕ) (words : ℕ → List ℕ) (counted : ℕ → PoolState) : Type 0 where
   pub seat : IsSeat seats n
-  pub kinds : (c : ℕ) → state_of (counted zero) c ≤ 4
+  pub kinds : (c : ℕ) → state_of (counted zero) c ≤ old_state
   pub pinned : (i : ℕ) → i ≤ last → slice_index (words i) (pin_word n) ≡ 1
   pub builder : ℕ → ℕ
   pub apart : (i : ℕ) → builder i ≢ n

@@ -11,24 +11,39 @@ abbrev pub grace_of : PoolState → ℕ → ℕ
 grace_of b n = slice_index b.grace n
 
 -- a chunk is free, being built, live, young or old
+abbrev pub free_state : ℕ
+free_state = 0
+
+abbrev pub built_state : ℕ
+built_state = 1
+
+abbrev pub live_state : ℕ
+live_state = 2
+
+abbrev pub young_state : ℕ
+young_state = 3
+
+abbrev pub old_state : ℕ
+old_state = 4
+
 abbrev pub IsFree : PoolState → ℕ → Type 0
-IsFree b c = state_of b c ≡ 0
+IsFree b c = state_of b c ≡ free_state
 
 abbrev pub IsBuilt : PoolState → ℕ → Type 0
-IsBuilt b c = state_of b c ≡ 1
+IsBuilt b c = state_of b c ≡ built_state
 
 abbrev pub IsLive : PoolState → ℕ → Type 0
-IsLive b c = state_of b c ≡ 2
+IsLive b c = state_of b c ≡ live_state
 
 abbrev pub IsYoung : PoolState → ℕ → Type 0
-IsYoung b c = state_of b c ≡ 3
+IsYoung b c = state_of b c ≡ young_state
 
 abbrev pub IsOld : PoolState → ℕ → Type 0
-IsOld b c = state_of b c ≡ 4
+IsOld b c = state_of b c ≡ old_state
 
 -- it is live, young or old
 abbrev pub IsInUse : PoolState → ℕ → Type 0
-IsInUse b c = 2 ≤ state_of b c
+IsInUse b c = live_state ≤ state_of b c
 
 -- A seat that is pinned may stand on the chunk: it is live or young, or it is old and the seat's grace bit is set
 abbrev pub IsSafe : PoolState → ℕ → ℕ → Type 0

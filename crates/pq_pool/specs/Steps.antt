@@ -10,7 +10,7 @@ use Rattle.pq_seats.specs.Views.{post_of}
 use Rattle.pq_seats.specs.Rules.{Table, Rule, Holds, Stands}
 use Rattle.pq_pool.specs.declared.views.PoolView.{PoolView}
 use Rattle.pq_pool.specs.Layout.{state_word}
-use Rattle.pq_pool.specs.States.{state_of, grace_of, IsFree, IsLive, IsSafe}
+use Rattle.pq_pool.specs.States.{state_of, grace_of, built_state, IsFree, IsLive, IsSafe}
 use Rattle.pq_pool.specs.Facts.{PoolFacts}
 use Rattle.pq_pool.specs.Views.{pin_loaded, grace_stored, state_stored, moved, turned_at, pinned_on, unpinned}
 use Rattle.pq_pool.specs.Parts.{PoolPart, pool_view, with_pool_view}
@@ -84,7 +84,7 @@ module _ {O : Type 0} (R : Rule O) (P : PoolPart O) where
     -- it takes a free chunk, and makes a chunk live or young
     abbrev pub takes : Type 0
     takes = (c : ℕ) × (st.word ≡ state_word c)
-        × (m' ≡ (with_pool_view P m.0 (moved (pool_view P m.0) c 1), m.1)) × GivenOut m.0 c
+        × (m' ≡ (with_pool_view P m.0 (moved (pool_view P m.0) c built_state), m.1)) × GivenOut m.0 c
 
     abbrev pub moves : Type 0
     moves = (c : ℕ) × (st.word ≡ state_word c) × (m' ≡ (with_pool_view P m.0 (moved (pool_view P m.0) c st.first), m.1))

@@ -1,7 +1,7 @@
 -- What a sweep does to the view of the builder, and what the taking of a chunk does after it.
 use Rattle.std.specs.Prelude.{◌≡◌, ◌≢◌, ◌⊎◌, ℕ, ◌+◌, ◌<◌, ◌≤◌, Bool, true, false, List, [], ◌∷◌, ◌++◌, length, Contains}
 use Rattle.pq_pool.specs.declared.views.PoolView.{PoolView}
-use Rattle.pq_pool.specs.States.{grace_of, IsFree, Agrees}
+use Rattle.pq_pool.specs.States.{grace_of, built_state, IsFree, Agrees}
 use Rattle.pq_pool.specs.Views.{KeepsPin, batches_turned, moved}
 
 -- A seat's bit after the loads of a sweep: it was not set; or the seat's pin word was loaded as 0, and it is cleared;
@@ -63,4 +63,4 @@ pub record LeastFree (swept w : PoolView) (c : ℕ) : Type 0 where
   pub chunk : c < length swept.counted.states
   pub free : IsFree swept.counted c
   pub least : (b : ℕ) → b < c → ¬ IsFree swept.counted b
-  pub built : w ≡ moved swept c 1
+  pub built : w ≡ moved swept c built_state

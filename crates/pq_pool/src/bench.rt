@@ -8,7 +8,7 @@ ghost use Rattle.pq_seats.specs.Passes.{limits_of, view_of, Belongs, IsSamePass}
 ghost use Rattle.pq_seats.specs.Steps.{Took, Missed, freed_view};
 ghost use Rattle.pq_pool.specs.Limits.{max_chunks};
 ghost use Rattle.pq_pool.specs.Layout.{builder_word, first_chunk, chunk_words};
-ghost use Rattle.pq_pool.specs.States.{IsBuilt, IsLive};
+ghost use Rattle.pq_pool.specs.States.{live_state, young_state, IsBuilt, IsLive};
 ghost use Rattle.pq_pool.specs.Views.{unpinned, moved};
 ghost use Rattle.pq_pool.specs.Passes.{pool_of, HoldsBuilder, StaysBuilder, StaysSeated, AgreesAt};
 ghost use Rattle.pq_pool.specs.Bench.{bench_rule, bench_pool, bench_limits, IsLoose};
@@ -35,7 +35,7 @@ impl SeatRule for Bench {
 impl PoolRule for Bench {
     const BUILDER: u32 = BUILDER_WORD;
 
-    ghost BUILDER = { 17 };
+    ghost BUILDER = { builder_word };
 
     ghost pool = { bench_pool };
 
@@ -145,7 +145,7 @@ impl Bench {
         requires builder { HoldsBuilder bench_pool shared.now pass.old }
         requires built { IsBuilt (pool_of bench_pool pass.old).stored chunk }
         ensures same { StaysBuilder bench_pool shared.now pass.old pass.new }
-        ensures live { pool_of bench_pool pass.new ≡ moved (pool_of bench_pool pass.old) chunk 2 }
+        ensures live { pool_of bench_pool pass.new ≡ moved (pool_of bench_pool pass.old) chunk live_state }
         ensures agrees { AgreesAt bench_pool shared.now pass.old → AgreesAt bench_pool shared.now pass.new }
         ensures stays { (c : ℕ) → IsLive (pool_of bench_pool pass.old).counted c
             → IsLive (pool_of bench_pool pass.new).counted c }
@@ -159,7 +159,7 @@ impl Bench {
         requires builder { HoldsBuilder bench_pool shared.now pass.old }
         requires live { IsLive (pool_of bench_pool pass.old).counted chunk }
         ensures same { StaysBuilder bench_pool shared.now pass.old pass.new }
-        ensures young { pool_of bench_pool pass.new ≡ moved (pool_of bench_pool pass.old) chunk 3 }
+        ensures young { pool_of bench_pool pass.new ≡ moved (pool_of bench_pool pass.old) chunk young_state }
         ensures agrees { AgreesAt bench_pool shared.now pass.old → AgreesAt bench_pool shared.now pass.new }
     {
         chunks::retire(shared, pass, chunk);

@@ -2,7 +2,7 @@
 ghost use Rattle.std.specs.Prelude.{◌≡◌, ℕ, MatchOption};
 ghost use Rattle.pq_seats.specs.Passes.{limits_of, view_of};
 ghost use Rattle.pq_pool.specs.declared.views.PoolView.{PoolView};
-ghost use Rattle.pq_pool.specs.States.{IsBuilt, IsLive};
+ghost use Rattle.pq_pool.specs.States.{live_state, young_state, IsBuilt, IsLive};
 ghost use Rattle.pq_pool.specs.Views.{moved};
 ghost use Rattle.pq_pool.specs.Parts.{with_pool_view};
 ghost use Rattle.pq_pool.specs.PoolLaws.{MayMove};
@@ -11,9 +11,8 @@ ghost use Rattle.pq_pool.specs.Steps.{GivenOut};
 ghost use Rattle.pq_pool.specs.Sweeps.{Swept, NoneFree, LeastFree};
 
 use crate::PoolRule;
-use crate::layout::{CHUNK_WORDS, FIRST_STATE, FREE, LIVE, YOUNG};
-use crate::plays::Move;
-use crate::steps::{begin_chunk, chunk_count, load_state};
+use crate::layout::{FREE, LIVE, YOUNG};
+use crate::steps::{begin_chunk, chunk_count, load_state, move_to};
 use crate::sweeping::sweep;
 use pq_seats::{SeatPass, Shared};
 
@@ -53,16 +52,13 @@ pub fn take<R: PoolRule>(shared: &Shared<R>, pass: &mut SeatPass<R>) -> Option<u
 pub fn publish<R: PoolRule>(shared: &Shared<R>, pass: &mut SeatPass<R>, chunk: u32)
     requires builder { HoldsBuilder R.pool shared.now pass.old }
     requires built { IsBuilt (pool_of R.pool pass.old).stored chunk }
-    requires allowed { MayMove R.rule R.pool (limits_of shared.now) pass.old.seat.id (view_of pass.old) chunk 2 }
+    requires allowed { MayMove R.rule R.pool (limits_of shared.now) pass.old.seat.id
+        (view_of pass.old) chunk live_state }
     ensures same { StaysBuilder R.pool shared.now pass.old pass.new }
-    ensures live { pool_of R.pool pass.new ≡ moved (pool_of R.pool pass.old) chunk 2 }
+    ensures live { pool_of R.pool pass.new ≡ moved (pool_of R.pool pass.old) chunk live_state }
     ensures agrees { AgreesAt R.pool shared.now pass.old → AgreesAt R.pool shared.now pass.new }
 {
-    shared.table.shared.store::<Move<R>>(
-        &mut pass.seat,
-        FIRST_STATE + CHUNK_WORDS * chunk as usize,
-        LIVE,
-    );
+    move_to(shared, pass, chunk, LIVE);
 }
 
 /// Makes a live chunk young, by one store. It becomes free by two turns of the batches, and each of these waits for the
@@ -72,14 +68,11 @@ pub fn publish<R: PoolRule>(shared: &Shared<R>, pass: &mut SeatPass<R>, chunk: u
 pub fn retire<R: PoolRule>(shared: &Shared<R>, pass: &mut SeatPass<R>, chunk: u32)
     requires builder { HoldsBuilder R.pool shared.now pass.old }
     requires live { IsLive (pool_of R.pool pass.old).counted chunk }
-    requires allowed { MayMove R.rule R.pool (limits_of shared.now) pass.old.seat.id (view_of pass.old) chunk 3 }
+    requires allowed { MayMove R.rule R.pool (limits_of shared.now) pass.old.seat.id
+        (view_of pass.old) chunk young_state }
     ensures same { StaysBuilder R.pool shared.now pass.old pass.new }
-    ensures young { pool_of R.pool pass.new ≡ moved (pool_of R.pool pass.old) chunk 3 }
+    ensures young { pool_of R.pool pass.new ≡ moved (pool_of R.pool pass.old) chunk young_state }
     ensures agrees { AgreesAt R.pool shared.now pass.old → AgreesAt R.pool shared.now pass.new }
 {
-    shared.table.shared.store::<Move<R>>(
-        &mut pass.seat,
-        FIRST_STATE + CHUNK_WORDS * chunk as usize,
-        YOUNG,
-    );
+    move_to(shared, pass, chunk, YOUNG);
 }

@@ -1,15 +1,16 @@
 //! The single steps of the builder on the words of the pool.
 ghost use Rattle.std.specs.Prelude.{◌≡◌, ◌⊎◌, ℕ, ◌<◌, length};
 ghost use Rattle.pq_model.specs.History.{IsSeat};
-ghost use Rattle.pq_seats.specs.Passes.{view_of};
-ghost use Rattle.pq_pool.specs.States.{state_of, grace_of, IsFree};
+ghost use Rattle.pq_seats.specs.Passes.{limits_of, view_of};
+ghost use Rattle.pq_pool.specs.States.{state_of, grace_of, built_state, IsFree};
 ghost use Rattle.pq_pool.specs.Views.{pin_loaded, grace_stored, state_stored, moved, turned_at};
-ghost use Rattle.pq_pool.specs.Passes.{pool_of, HoldsBuilder, StaysBuilder};
+ghost use Rattle.pq_pool.specs.PoolLaws.{MayMove};
+ghost use Rattle.pq_pool.specs.Passes.{pool_of, HoldsBuilder, StaysBuilder, AgreesAt};
 ghost use Rattle.pq_pool.specs.Steps.{GivenOut};
 
 use crate::PoolRule;
 use crate::layout::{BUILT, CHUNK_WORDS, FIRST_CHUNK, FIRST_STATE, GRACE_BITS, PINS};
-use crate::plays::{Begin, LoadGrace, LoadPin, LoadState, StoreGrace, StoreState, Turn};
+use crate::plays::{Begin, LoadGrace, LoadPin, LoadState, Move, StoreGrace, StoreState, Turn};
 use pq_seats::{SeatPass, Shared};
 
 /// The grace bit of a seat.
@@ -111,12 +112,29 @@ pub fn begin_chunk<R: PoolRule>(shared: &Shared<R>, pass: &mut SeatPass<R>, chun
     requires chunk { chunk < length (pool_of R.pool pass.old).stored.states }
     requires free { IsFree (pool_of R.pool pass.old).counted chunk }
     ensures same { StaysBuilder R.pool shared.now pass.old pass.new }
-    ensures view { pool_of R.pool pass.new ≡ moved (pool_of R.pool pass.old) chunk 1 }
+    ensures view { pool_of R.pool pass.new ≡ moved (pool_of R.pool pass.old) chunk built_state }
     ensures given { GivenOut R.rule R.pool (view_of pass.old) chunk }
 {
     shared.table.shared.store::<Begin<R>>(
         &mut pass.seat,
         FIRST_STATE + CHUNK_WORDS * chunk as usize,
         BUILT,
+    );
+}
+
+/// Stores a state, live or young, which counts from then on. The rule has to allow it.
+pub fn move_to<R: PoolRule>(shared: &Shared<R>, pass: &mut SeatPass<R>, chunk: u32, state: u64)
+    requires builder { HoldsBuilder R.pool shared.now pass.old }
+    requires chunk { chunk < length (pool_of R.pool pass.old).stored.states }
+    requires allowed { MayMove R.rule R.pool (limits_of shared.now) pass.old.seat.id
+        (view_of pass.old) chunk state }
+    ensures same { StaysBuilder R.pool shared.now pass.old pass.new }
+    ensures view { pool_of R.pool pass.new ≡ moved (pool_of R.pool pass.old) chunk state }
+    ensures agrees { AgreesAt R.pool shared.now pass.old → AgreesAt R.pool shared.now pass.new }
+{
+    shared.table.shared.store::<Move<R>>(
+        &mut pass.seat,
+        FIRST_STATE + CHUNK_WORDS * chunk as usize,
+        state,
     );
 }

@@ -1,5 +1,5 @@
 -- The steps of the spot are allowed.
-use Rattle.std.proofs.Common.{◌≡◌, ◌≢◌, Some, None, ℕ, zero, suc, ◌+◌, ◌-◌, ◌<◌, ◌≤◌, Bool, true, false, cond, eqb, List, [], ◌∷◌, ◌++◌, map, length, get_or, set, min, eq-eqb, refl, ap, ◌∙◌, sym, subst, inl, inr, ⊎_elim, arith, Contains}
+use Rattle.std.proofs.Common.{◌≡◌, ◌≢◌, Some, None, ℕ, zero, suc, ◌+◌, ◌-◌, ◌<◌, ◌≤◌, Bool, true, false, cond, eqb, List, [], ◌∷◌, map, length, get_or, set, min, eq-eqb, refl, ap, ◌∙◌, sym, subst, inl, inr, ⊎_elim, arith, Contains}
 use Rattle.std.proofs.Common.{get_or-set_same, get_or-set_other}
 use Rattle.std.specs.Prelude.{MatchBool}
 use mathlib.Core.Option.{some, none, some-injective, some-ne-none}
@@ -30,7 +30,7 @@ use Rattle.pq_seats.proofs.Keeps.{settled, own_lane, one_number, number_low, unt
 use Rattle.pq_seats.proofs.Owning.{own_stays}
 use Rattle.pq_seats.proofs.Lengths.{few_marks}
 use Rattle.pq_spot.specs.declared.views.SpotPart.{SpotPart}
-use Rattle.pq_spot.specs.Spot.{token, idle, part, lock_word, spot_word, held, IsOffered, SpotTied, removal, batch_of, spot_rule, stored_post, offered_post}
+use Rattle.pq_spot.specs.Spot.{token, idle, part, lock_word, spot_word, words_needed, max_word, held, IsOffered, SpotTied, removal, batch_of, spot_rule, stored_post, offered_post}
 use Rattle.pq_spot.specs.Spot as spot
 use Rattle.pq_spot.specs.Passes.{IsTried, resting}
 use Rattle.pq_spot.specs.LawsHold.{P, same_letters, offer_on, offer_stays, frame, spot_laws}
@@ -100,7 +100,7 @@ held_offer : (n : ℕ) → n ≢ 0 → held (suc n) ≡ []
 held_offer zero ne = absurd (ne refl)
 held_offer (suc n) ne = refl
 
-few_counts : (c : ℕ) (words : List ℕ) (posts : List P) → ((n : ℕ) → c ≡ suc (suc n) → IsOffered (suc n) words posts) → c ≤ 17
+few_counts : (c : ℕ) (words : List ℕ) (posts : List P) → ((n : ℕ) → c ≡ suc (suc n) → IsOffered (suc n) words posts) → c ≤ max_word
 few_counts zero words posts offers = omega arith
 few_counts (suc zero) words posts offers = omega arith
 few_counts (suc (suc n)) words posts offers = let high = (offers n refl).seat.1 in omega arith
@@ -353,7 +353,7 @@ tried_is n v w true rests t = (t.own.counted, record { post = t.post ∙ (λ j. 
 tried_is n v w false rests m = record { post = m.same.post ∙ rests; lanes = m.same.lanes; front = m.same.front }
 
 -- The words of a new table
-pub spot_begins : (k : Limits) (words : List ℕ) → IsSeat max_seats k.seats → 1 ≤ k.capacity → length words ≡ 19 → ((i : ℕ) → get_or words i 0 ≡ 0) → Begins spot_rule k words
+pub spot_begins : (k : Limits) (words : List ℕ) → IsSeat max_seats k.seats → 1 ≤ k.capacity → length words ≡ words_needed → ((i : ℕ) → get_or words i 0 ≡ 0) → Begins spot_rule k words
 spot_begins k words seat room long all = record {
   seats = seat;
   letters = omega arith;

@@ -1,5 +1,5 @@
 -- What the words of a closed table leave.
-use Rattle.std.proofs.Common.{◌≡◌, ◌≢◌, Some, None, ℕ, zero, suc, Bool, true, false, ◌==◌, List, [], ◌∷◌, refl, ap, ◌∙◌, sym, subst, ⊎_elim}
+use Rattle.std.proofs.Common.{◌≡◌, ◌≢◌, Some, None, ℕ, zero, suc, Bool, true, false, ◌==◌, List, refl, ap, ◌∙◌, sym, subst, ⊎_elim}
 use mathlib.Core.Option.{some}
 use lib.ListN.{get_elem?}
 use Rattle.pq_model.specs.History.{IsLegal}

@@ -10,7 +10,7 @@ use Rattle.pq_seats.specs.declared.shared.SeatPass.{SeatPass}
 use Rattle.pq_seats.specs.Views.{empty_post}
 use Rattle.pq_seats.specs.Passes.{view_of, Belongs}
 use Rattle.pq_spot.specs.declared.views.SpotPart.{SpotPart}
-use Rattle.pq_spot.specs.Spot.{token, lock_word, idle, part}
+use Rattle.pq_spot.specs.Spot.{token, lock_word, words_needed, idle, part}
 
 -- the seat holds this now, and knows what it knew
 pub record Goes (v w : View SpotPart) (p : Post SpotPart) : Type 0 where
@@ -64,7 +64,7 @@ remains false length = record { left = []; length = length }
 
 module _ {R : Type 0} where
   abbrev pub Rests : Shared R SpotPart → SeatPass R SpotPart → Type 0
-  Rests q p = Belongs q p × ((view_of p).post ≡ resting p.number) × (19 ≤ q.words)
+  Rests q p = Belongs q p × ((view_of p).post ≡ resting p.number) × (words_needed ≤ q.words)
 
   abbrev pub Offers : Shared R SpotPart → SeatPass R SpotPart → Type 0
-  Offers q p = Belongs q p × ((view_of p).post ≡ offering p.number) × (19 ≤ q.words)
+  Offers q p = Belongs q p × ((view_of p).post ≡ offering p.number) × (words_needed ≤ q.words)

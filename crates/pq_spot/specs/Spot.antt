@@ -31,6 +31,14 @@ lock_word = 17
 abbrev pub spot_word : ℕ
 spot_word = 18
 
+-- how many words the table has
+abbrev pub words_needed : ℕ
+words_needed = 19
+
+-- the greatest word of the spot: the greatest number of a seat, and one
+abbrev pub max_word : ℕ
+max_word = suc max_seats
+
 abbrev pub part : ℕ → ℕ → SpotPart
 part stored counted = record { stored = stored; counted = counted }
 
@@ -85,7 +93,7 @@ after_draw (RemoveBelow limit) = 0
 abbrev pub spot_rule : Rule SpotPart
 spot_rule = record {
   idle = idle;
-  width = λ k. 19;
+  width = λ k. words_needed;
   locks = λ k i. i == lock_word;
   ties = SpotTied;
   taken = λ k v i w. w.stored ≡ w.counted;
@@ -108,7 +116,7 @@ offered_post p = record p { flight = Some token; own = part (suc p.number) (suc 
 module _ (st : Step (Unit {0})) (m : Me (Unit {0}) (View SpotPart)) (found : ℕ)
     (m' : Me (Unit {0}) (View SpotPart)) where
   abbrev pub looks : Type 0
-  looks = (m' ≡ m) × (found ≡ m.0.post.own.stored) × (m.0.post.own.counted ≤ 17)
+  looks = (m' ≡ m) × (found ≡ m.0.post.own.stored) × (m.0.post.own.counted ≤ max_word)
 
   abbrev pub offers : Type 0
   offers = m' ≡ (with_post m.0 (offered_post m.0.post), m.1)

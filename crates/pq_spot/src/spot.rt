@@ -14,7 +14,8 @@ ghost use Rattle.pq_seats.specs.Views.{with_post};
 ghost use Rattle.pq_seats.specs.Laws.{history_limit};
 ghost use Rattle.pq_seats.specs.Steps.{Took, Missed};
 ghost use Rattle.pq_seats.specs.Passes.{limits_of, view_of, known, Belongs, IsSamePass};
-ghost use Rattle.pq_spot.specs.Spot.{token, lock_word, part, spot_rule, stored_post, offered_post};
+ghost use Rattle.pq_spot.specs.Spot.{token, lock_word, words_needed, max_word, part, spot_rule};
+ghost use Rattle.pq_spot.specs.Spot.{stored_post, offered_post};
 ghost use Rattle.pq_spot.specs.Passes.{Goes, IsStill, IsTried, resting, offering, locking, freed_post};
 ghost use Rattle.pq_spot.specs.Passes.{offered_by, settled_by, taken_reply};
 ghost use Rattle.pq_spot.specs.Passes.{Rests, Offers, remains};
@@ -69,12 +70,12 @@ pub fn open(
 // Takes the lock, and gives what the spot has.
 fn hold<W: Wait>(rt: &W, table: &SpotTable, pass: &mut SpotPass) -> u64
     requires own { Belongs table.now pass.old }
-    requires wide { 19 ≤ table.now.words }
+    requires wide { words_needed ≤ table.now.words }
     requires unlocked { (view_of pass.old).post.locks ≡ [] }
     ensures own { Belongs table.now pass.new }
     ensures same { IsSamePass pass.old pass.new }
     ensures held { Goes (view_of pass.old) (view_of pass.new) (locking (view_of pass.old).post result result) }
-    ensures small { result ≤ 17 }
+    ensures small { result ≤ max_word }
 {
     table.lock(rt, pass, LOCK);
     look(table, pass)
@@ -83,13 +84,13 @@ fn hold<W: Wait>(rt: &W, table: &SpotTable, pass: &mut SpotPass) -> u64
 // What the spot has, by the holder of the lock.
 fn look(table: &SpotTable, pass: &mut SpotPass) -> u64
     requires own { Belongs table.now pass.old }
-    requires wide { 19 ≤ table.now.words }
+    requires wide { words_needed ≤ table.now.words }
     requires held { Contains (view_of pass.old).post.locks lock_word }
     ensures own { Belongs table.now pass.new }
     ensures same { IsSamePass pass.old pass.new }
     ensures view { view_of pass.new ≡ view_of pass.old }
     ensures found { result ≡ (view_of pass.old).post.own.stored }
-    ensures small { (view_of pass.old).post.own.counted ≤ 17 }
+    ensures small { (view_of pass.old).post.own.counted ≤ max_word }
 {
     table.table.shared.load::<Look>(&mut pass.seat, SPOT)
 }
@@ -97,7 +98,7 @@ fn look(table: &SpotTable, pass: &mut SpotPass) -> u64
 // Stores at the spot, by the holder of the lock.
 fn put(table: &SpotTable, pass: &mut SpotPass, word: u64)
     requires own { Belongs table.now pass.old }
-    requires wide { 19 ≤ table.now.words }
+    requires wide { words_needed ≤ table.now.words }
     requires held { Contains (view_of pass.old).post.locks lock_word }
     ensures own { Belongs table.now pass.new }
     ensures same { IsSamePass pass.old pass.new }
@@ -110,7 +111,7 @@ fn put(table: &SpotTable, pass: &mut SpotPass, word: u64)
 // Offers the entry at a spot that has none, by the holder of the lock.
 fn put_offer(table: &SpotTable, pass: &mut SpotPass)
     requires own { Belongs table.now pass.old }
-    requires wide { 19 ≤ table.now.words }
+    requires wide { words_needed ≤ table.now.words }
     requires post { (view_of pass.old).post ≡ locking (resting pass.old.number) 0 0 }
     requires few { length (known pass.old).calls < call_limit - 1 }
     ensures own { Belongs table.now pass.new }
@@ -127,7 +128,7 @@ fn put_offer(table: &SpotTable, pass: &mut SpotPass)
 // Frees the lock, where the spot is stored as it counts.
 fn free(table: &SpotTable, pass: &mut SpotPass)
     requires own { Belongs table.now pass.old }
-    requires wide { 19 ≤ table.now.words }
+    requires wide { words_needed ≤ table.now.words }
     requires locks { (view_of pass.old).post.locks ≡ lock_word ∷ [] }
     requires stored { (view_of pass.old).post.own.stored ≡ (view_of pass.old).post.own.counted }
     ensures own { Belongs table.now pass.new }
@@ -153,7 +154,7 @@ pub fn try_hold(table: &SpotTable, pass: &mut SpotPass) -> bool
 
 /// Frees the lock that `try_hold` took.
 pub fn unhold(table: &SpotTable, pass: &mut SpotPass)
-    requires own { Belongs table.now pass.old × (19 ≤ table.now.words) }
+    requires own { Belongs table.now pass.old × (words_needed ≤ table.now.words) }
     requires held { (x : ℕ) × ((view_of pass.old).post ≡ locking (resting pass.old.number) x x) }
     ensures rests { Rests table.now pass.new }
     ensures same { IsSamePass pass.old pass.new × IsStill (view_of pass.old) (view_of pass.new) }
@@ -206,7 +207,7 @@ pub fn settle<W: Wait>(rt: &W, table: &SpotTable, pass: &mut SpotPass) -> Option
 // Places the seat's own insert, under the lock, which it frees.
 fn place_own(table: &SpotTable, pass: &mut SpotPass) -> u32
     requires own { Belongs table.now pass.old }
-    requires wide { 19 ≤ table.now.words }
+    requires wide { words_needed ≤ table.now.words }
     requires few { length (known pass.old).calls < call_limit - 1 }
     requires post { (view_of pass.old).post ≡
         locking (offering pass.old.number) (suc pass.old.number) (suc pass.old.number) }
@@ -241,7 +242,7 @@ pub fn remove<W: Wait>(rt: &W, table: &SpotTable, pass: &mut SpotPass) -> (bool,
 // Finds nothing at the spot.
 fn take_none(table: &SpotTable, pass: &mut SpotPass) -> u32
     requires own { Belongs table.now pass.old }
-    requires wide { 19 ≤ table.now.words }
+    requires wide { words_needed ≤ table.now.words }
     requires few { length (known pass.old).calls < call_limit - 1 }
     requires post { (view_of pass.old).post ≡ locking (resting pass.old.number) 0 0 }
     ensures own { Belongs table.now pass.new }
@@ -257,7 +258,7 @@ fn take_none(table: &SpotTable, pass: &mut SpotPass) -> u32
 // Takes the entry that is in the queue.
 fn take_it(table: &SpotTable, pass: &mut SpotPass) -> u32
     requires own { Belongs table.now pass.old }
-    requires wide { 19 ≤ table.now.words }
+    requires wide { words_needed ≤ table.now.words }
     requires few { length (known pass.old).calls < call_limit - 1 }
     requires post { (view_of pass.old).post ≡ locking (resting pass.old.number) 1 1 }
     ensures own { Belongs table.now pass.new }
@@ -274,7 +275,7 @@ fn take_it(table: &SpotTable, pass: &mut SpotPass) -> u32
 // Takes the entry that this seat offers, and leaves it its letter.
 fn take_offered(table: &SpotTable, pass: &mut SpotPass, owner: u32) -> u32
     requires own { Belongs table.now pass.old }
-    requires wide { 19 ≤ table.now.words }
+    requires wide { words_needed ≤ table.now.words }
     requires owner { (1 ≤ owner) × (owner ≤ max_seats) }
     requires few { length (known pass.old).calls < call_limit - 1 }
     requires post { (view_of pass.old).post ≡ locking (resting pass.old.number) (suc owner) (suc owner) }

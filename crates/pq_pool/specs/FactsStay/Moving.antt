@@ -14,7 +14,7 @@ use Rattle.pq_seats.proofs.Lists.{same_at}
 use Rattle.pq_pool.specs.declared.views.PoolState.{PoolState}
 use Rattle.pq_pool.specs.declared.views.PoolView.{PoolView}
 use Rattle.pq_pool.specs.Layout.{builder_word, next_word, state_word}
-use Rattle.pq_pool.specs.States.{state_of, IsLive, IsInUse, Sized, Written}
+use Rattle.pq_pool.specs.States.{state_of, live_state, young_state, IsLive, IsInUse, Sized, Written}
 use Rattle.pq_pool.specs.Facts.{PoolFacts, IsBuilder}
 use Rattle.pq_pool.specs.Views.{with_state}
 use Rattle.pq_pool.specs.FactsStay.Words.{pinned_still}
@@ -35,7 +35,7 @@ module _ {O : Type 0} (view_of : O → PoolView) (k : Limits) (words : List ℕ)
     (p' : Post O) (number : p'.number ≡ p.number) where
   -- The chunk c gets the state x, which is live or young, in the words and as it counts. It links to a live chunk, and
   -- no chunk that links to it is nearer to being in full use
-  pub moved_stays : (c x : ℕ) → c < t.chunks.count → 2 ≤ x → x ≤ 3
+  pub moved_stays : (c x : ℕ) → c < t.chunks.count → live_state ≤ x → x ≤ young_state
       → (view_of p'.own).stored ≡ with_state (view_of p.own).stored c x → (view_of p'.own).counted ≡ with_state t.counted c x → (view_of p'.own).pinned ≡ false
       → ((u : ℕ) → get_or words (next_word c) 0 ≡ suc u → (u < t.chunks.count) × (u ≢ c) × IsLive t.counted u)
       → ((e : ℕ) → e < t.chunks.count → IsInUse t.counted e → get_or words (next_word e) 0 ≡ suc c → e ≢ c → x ≤ state_of t.counted e)
@@ -95,7 +95,7 @@ module _ {O : Type 0} (view_of : O → PoolView) (k : Limits) (words : List ℕ)
       }
 
   -- only that state counts otherwise than before
-  pub moved_stays-counted : (c x : ℕ) (lt : c < t.chunks.count) (low : 2 ≤ x) (high : x ≤ 3)
+  pub moved_stays-counted : (c x : ℕ) (lt : c < t.chunks.count) (low : live_state ≤ x) (high : x ≤ young_state)
       (stored : (view_of p'.own).stored ≡ with_state (view_of p.own).stored c x) (counted : (view_of p'.own).counted ≡ with_state t.counted c x) (unpinned : (view_of p'.own).pinned ≡ false)
       (own_link : (u : ℕ) → get_or words (next_word c) 0 ≡ suc u → (u < t.chunks.count) × (u ≢ c) × IsLive t.counted u)
       (to_it : (e : ℕ) → e < t.chunks.count → IsInUse t.counted e → get_or words (next_word e) 0 ≡ suc c → e ≢ c → x ≤ state_of t.counted e)
