@@ -5,7 +5,7 @@ use Rattle.pq_words.specs.declared.letters.Letter.TheVariants.{Nothing, At, Back
 use Rattle.pq_seats.specs.Rules.{Rule}
 use Rattle.pq_hunt.specs.declared.views.HuntPart.{HuntPart}
 use Rattle.pq_hunt.specs.Layout.{is_lock, word_count}
-use Rattle.pq_hunt.specs.Views.{idle, IsTaken, freed}
+use Rattle.pq_hunt.specs.Views.{idle, IsLockTaken, freed}
 use Rattle.pq_hunt.specs.Batches.{batch_of, after_draw}
 use Rattle.pq_hunt.specs.Ties.{HuntTied}
 
@@ -25,7 +25,7 @@ hunt_rule = record {
   width = λ k. word_count k.capacity;
   locks = λ k i. is_lock k.capacity i;
   ties = HuntTied;
-  taken = λ k v i w. IsTaken k.capacity v i w;
+  taken = λ k v i w. IsLockTaken k.capacity v i w;
   freed = λ k v i. freed v i;
   batch = λ k p act n. batch_of p.own act;
   drawn = λ k p act n. after_draw p.own act;

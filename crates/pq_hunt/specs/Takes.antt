@@ -1,5 +1,5 @@
 -- What a remover has taken.
-use Rattle.std.specs.Prelude.{◌≡◌, ℕ, ◌-◌, ◌≤◌, [], ◌∷◌, Option, Some, None}
+use Rattle.std.specs.Prelude.{◌≡◌, ℕ, ◌-◌, ◌≤◌, ◌<◌, [], ◌∷◌, length, Option, Some, None}
 use Rattle.pq_words.specs.declared.entries.Entry.{Entry}
 use Rattle.pq_words.specs.declared.heap_words.HeapWord.{HeapWord}
 use Rattle.pq_words.specs.HeapWords.{heap_number}
@@ -7,23 +7,38 @@ use Rattle.pq_model.specs.declared.marks.Act.{Act}
 use Rattle.pq_model.specs.declared.marks.Act.TheVariants.{RemoveBelow}
 use Rattle.pq_model.specs.declared.marks.Reply.{Reply}
 use Rattle.pq_model.specs.declared.marks.Reply.TheVariants as replies
+use Rattle.pq_api.specs.Limits.{call_limit}
 use Rattle.pq_api.specs.Answers.{MakesCall}
 use Rattle.pq_seats.specs.declared.shared.Shared.{Shared}
 use Rattle.pq_seats.specs.declared.shared.SeatPass.{SeatPass}
 use Rattle.pq_seats.specs.Views.{empty_post}
-use Rattle.pq_seats.specs.Passes.{view_of, known, IsInformed}
+use Rattle.pq_seats.specs.Passes.{limits_of, view_of, known, IsInformed}
 use Rattle.pq_hunt.specs.Marks.{MayGet}
+use Rattle.pq_hunt.specs.Words.{node_of}
 use Rattle.pq_hunt.specs.declared.remove.Taken.{Taken}
 use Rattle.pq_hunt.specs.declared.remove.Taken.TheVariants as takes
 use Rattle.pq_hunt.specs.declared.views.HuntPart.{HuntPart}
 use Rattle.pq_hunt.specs.declared.nodes.Node.TheVariants.{Empty, Hole}
 use Rattle.pq_hunt.specs.Views.{idle, guard}
-use Rattle.pq_hunt.specs.Passes.{at_hole, removing}
+use Rattle.pq_hunt.specs.Passes.{at_hole, removing, saying, IsUsed, AreApart}
 
 -- a removal takes nothing of an entry with its key at this limit or above it, and may else take it
 abbrev pub IsBarred : Act → Entry → Option ℕ → Type 0
 IsBarred act e (Some limit) = (act ≡ RemoveBelow limit) × (limit ≤ e.key)
 IsBarred act e None = MayGet act e
+
+-- A removal may take the root's entry, and has not drawn its place. The seat holds the lock over the size, that of the
+-- root and that of the last node, which is another. These are the words of the two nodes.
+pub record MayGetRoot {R : Type 0} (q : Shared R HuntPart) (p : SeatPass R HuntPart) (act : Act) (size : ℕ)
+    (root last : HeapWord) : Type 0 where
+  pub many : 2 ≤ size
+  pub within : size ≤ (limits_of q).capacity
+  pub root_used : IsUsed root
+  pub last_used : IsUsed last
+  pub apart : AreApart (node_of root) (node_of last)
+  pub may : MayGet act root.entry
+  pub post : (view_of p).post ≡ removing p.number [] size size (saying 1 root ∷ saying size last ∷ [])
+  pub few : length (known p).calls < call_limit - 1
 
 module _ {R : Type 0} (q : Shared R HuntPart) (p p' : SeatPass R HuntPart) (act : Act) where
   -- the removal was answered at this place, and the seat holds nothing

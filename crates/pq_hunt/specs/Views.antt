@@ -24,7 +24,7 @@ with_size v stored counted = record v { size_stored = stored; size_counted = cou
 
 -- A lock was taken. Where it is that over the size, the view names the size, which counts as its word says. Where it is
 -- that of a node, the view has behind its other guards one for the node, which counts as its word says.
-pub record IsTaken (capacity : ℕ) (v : HuntPart) (lock : ℕ) (w : HuntPart) : Type 0 where
+pub record IsLockTaken (capacity : ℕ) (v : HuntPart) (lock : ℕ) (w : HuntPart) : Type 0 where
   pub heap : lock ≡ heap_lock → (size : ℕ) × (size ≤ capacity) × (w ≡ with_size v size size)
   pub node : (i : ℕ) → lock ≡ lock_of i
       → (word : ℕ) × (counted : Node) × Means counted word × (w ≡ with_guards v (v.guards ++ guard i word counted ∷ []))

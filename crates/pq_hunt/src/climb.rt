@@ -23,6 +23,7 @@ use crate::{HuntPass, HuntTable};
 use crossbeam_utils::Backoff;
 use pq_model::Act;
 use pq_words::{Entry, HeapWord, Letter, Tag};
+use std::ops::ControlFlow;
 use std::sync::Wait;
 
 // Takes the locks of the node where the seat looks for its entry, and before it of the parent.
@@ -98,16 +99,8 @@ fn rise(
     free_two(table, pass, parent, child);
 }
 
-/// What a turn of an insert comes to.
-#[derive(Clone, Copy, Drop)]
-pub(crate) enum Turn {
-    /// The insert is done, at this place.
-    Done(u32),
-    /// The seat looks for its entry at this node next.
-    At(u32),
-}
-
-// One turn of an insert whose entry is looked for below the root.
+// One turn of an insert whose entry is looked for below the root: breaks with the place where the insert is done, or
+// continues with the node where the seat looks for its entry next.
 fn climb_once<W: Wait>(
     table: &HuntTable,
     rt: &W,
@@ -115,7 +108,7 @@ fn climb_once<W: Wait>(
     child: u32,
     e: Entry,
     mine: u64,
-) -> Turn
+) -> ControlFlow<u32, u32>
     requires table { IsHeapTable table.now }
     requires own { Belongs table.now pass.old }
     requires child { (2 ≤ child) × (child ≤ (limits_of table.now).capacity) }
@@ -130,7 +123,7 @@ fn climb_once<W: Wait>(
     take_pair(table, rt, pass, parent, child, e);
     if find(table, pass, child) != mine {
         free_two(table, pass, parent, child);
-        return Turn::At(parent);
+        return ControlFlow::Continue(parent);
     }
     let above = look(table, pass, parent);
     let word = HeapWord::unpack(above);
@@ -138,14 +131,14 @@ fn climb_once<W: Wait>(
         Tag::Available => {
             if e.raw() < word.entry.raw() {
                 rise(table, pass, parent, child, e, above, mine);
-                Turn::At(parent)
+                ControlFlow::Continue(parent)
             } else {
-                Turn::Done(settle(table, pass, parent, child, e))
+                ControlFlow::Break(settle(table, pass, parent, child, e))
             }
         }
         Tag::Empty | Tag::Busy => {
             free_two(table, pass, parent, child);
-            Turn::At(child)
+            ControlFlow::Continue(child)
         }
     }
 }
@@ -235,8 +228,8 @@ pub(crate) fn climb<W: Wait>(
             return end_at_root(table, rt, pass, e, mine);
         }
         match climb_once(table, rt, pass, node, e, mine) {
-            Turn::Done(place) => return place,
-            Turn::At(next) => {
+            ControlFlow::Break(place) => return place,
+            ControlFlow::Continue(next) => {
                 if next == node {
                     backoff.snooze();
                 }

@@ -12,7 +12,7 @@ ghost use Rattle.pq_hunt.specs.Tables.{IsHeapTable};
 ghost use Rattle.pq_hunt.specs.Queues.{SayNodes};
 
 use crate::insert::insert;
-use crate::layout::word_of;
+use crate::layout::{word_count, word_of};
 use crate::remove::{remove, remove_below};
 use crate::{HuntPass, HuntTable};
 use atomic_table::Closed as ClosedTable;
@@ -45,13 +45,13 @@ pub struct HuntHeap<G> {
     pub ghost seated: { table.seats ≤ capacity },
 }
 
-// The words of a heap without entries: 36, and four for each node.
+// The words of a heap without entries.
 fn blank_words(alloc: Global, capacity: u32) -> Result<Vec<u64>, NoMemory>
     requires { capacity ≤ max_capacity }
     ensures { IfOk result (λ v. v.items ≡ replicate (layout.word_count capacity) 0) }
 {
     let mut words = Vec::new(alloc);
-    words.resize(36 + 4 * capacity as usize, 0)?;
+    words.resize(word_count(capacity), 0)?;
     Ok(words)
 }
 

@@ -17,7 +17,7 @@ ghost use Rattle.pq_hunt.specs.Batches.{flight_at};
 ghost use Rattle.pq_hunt.specs.Marks.{IsRemoval, MayGet};
 ghost use Rattle.pq_hunt.specs.Views.{idle, guard};
 ghost use Rattle.pq_hunt.specs.Passes.{Holds, at_heap, at_hole, removing, saying, IsUsed, AreApart, telling};
-ghost use Rattle.pq_hunt.specs.Takes.{IsBarred, IsAnswered, IsPlaced, IsOpened, IsTaken};
+ghost use Rattle.pq_hunt.specs.Takes.{IsBarred, MayGetRoot, IsAnswered, IsPlaced, IsOpened, IsTaken};
 ghost use Rattle.pq_hunt.specs.Tables.{IsHeapTable};
 
 use crate::accesses::{look, store, store_size};
@@ -191,14 +191,7 @@ fn place_got(
 ) -> u32
     requires table { IsHeapTable table.now }
     requires own { Belongs table.now pass.old }
-    requires size { (2 ≤ size) × (size ≤ (limits_of table.now).capacity) }
-    requires root { IsUsed root }
-    requires last { IsUsed last }
-    requires apart { AreApart (node_of root) (node_of last) }
-    requires may { MayGet act root.entry }
-    requires post { (view_of pass.old).post ≡
-        removing pass.old.number [] size size (saying 1 root ∷ saying size last ∷ []) }
-    requires few { length (known pass.old).calls < call_limit - 1 }
+    requires gets { MayGetRoot table.now pass.old act size root last }
     ensures own { Belongs table.now pass.new }
     ensures same { IsSamePass pass.old pass.new }
     ensures placed { IsPlaced table.now pass.old pass.new act root last size result }
@@ -224,14 +217,7 @@ fn draw_got(
 ) -> u32
     requires table { IsHeapTable table.now }
     requires own { Belongs table.now pass.old }
-    requires size { (2 ≤ size) × (size ≤ (limits_of table.now).capacity) }
-    requires root { IsUsed root }
-    requires last { IsUsed last }
-    requires apart { AreApart (node_of root) (node_of last) }
-    requires may { MayGet act root.entry }
-    requires post { (view_of pass.old).post ≡
-        removing pass.old.number [] size size (saying 1 root ∷ saying size last ∷ []) }
-    requires few { length (known pass.old).calls < call_limit - 1 }
+    requires gets { MayGetRoot table.now pass.old act size root last }
     ensures own { Belongs table.now pass.new }
     ensures same { IsSamePass pass.old pass.new }
     ensures opened { IsOpened table.now pass.old pass.new act root.entry result last.entry }

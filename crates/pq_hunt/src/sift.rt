@@ -13,6 +13,7 @@ ghost use Rattle.pq_hunt.specs.Passes.{IsLeast, Sifted, at_hole};
 ghost use Rattle.pq_hunt.specs.Tables.{IsHeapTable};
 
 use crate::accesses::{fill, look, sift_left, sift_right};
+use crate::layout::{NODE_WORDS, word_count};
 use crate::locks::{free_node, take_node};
 use crate::{HuntPass, HuntTable};
 use pq_words::{Entry, HeapWord, RAW_LIMIT, Tag};
@@ -52,7 +53,7 @@ fn capacity_of(table: &HuntTable) -> u32
     requires table { IsHeapTable table.now }
     ensures { result ≡ (limits_of table.now).capacity }
 {
-    ((table.words - 36) / 4) as u32
+    ((table.words - word_count(0)) / NODE_WORDS as usize) as u32
 }
 
 // One turn: the next hole, or 0 where the entry in hand fills this one.
