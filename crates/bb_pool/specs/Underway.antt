@@ -105,11 +105,11 @@ IsOver m nodes capacity None known = ⊥
 IsOver m nodes capacity (Some found) known = IsBest m nodes capacity found.plan found.cost known
 
 -- After a turn the search is underway and has made one more call at least, or it is over.
-abbrev pub IsTurn : {N P : Type 0} → Meaning N P → ℕ → ℕ → State N P → ControlFlow (Unit {0}) (Unit {0})
+abbrev pub IsTurnOfOne : {N P : Type 0} → Meaning N P → ℕ → ℕ → State N P → ControlFlow (Unit {0}) (Unit {0})
     → State N P → Type 0
-IsTurn m nodes capacity before (Continue _) now =
+IsTurnOfOne m nodes capacity before (Continue _) now =
     IsUnderway m nodes capacity now [] × (length before.queue.known.calls + 1 ≤ length now.queue.known.calls)
-IsTurn m nodes capacity before (Break _) now = IsOver m nodes capacity now.best now.queue.known
+IsTurnOfOne m nodes capacity before (Break _) now = IsOver m nodes capacity now.best now.queue.known
 
 -- the outcome of a search that is over
 abbrev pub best_outcome : {P : Type 0} → Option (Found P) → Outcome P

@@ -6,7 +6,7 @@ ghost use Rattle.bb_problem.specs.Limits.{max_children, size_limit};
 ghost use Rattle.bb_pool.specs.Limits.{max_nodes};
 ghost use Rattle.bb_pool.specs.Outcomes.{IsOutcome, IsStop, IfNodeLimit};
 ghost use Rattle.bb_pool.specs.Children.{StandAt};
-ghost use Rattle.bb_pool.specs.Underway.{state_of, IsUnderway, IsOver, IsTurn};
+ghost use Rattle.bb_pool.specs.Underway.{state_of, IsUnderway, IsOver, IsTurnOfOne};
 
 use crate::children::{bounds, is_below};
 use crate::found::Found;
@@ -140,7 +140,7 @@ fn take_turn<C: OnePass, P: Problem>(
     requires underway { let state = state_of C.seat search.old in
         IsUnderway (P.meaning problem.now) nodes state.queue.capacity state [] }
     ensures turn { let before = state_of C.seat search.old in IfOk result (λ flow.
-        IsTurn (P.meaning problem.now) nodes before.queue.capacity before flow (state_of C.seat search.new)) }
+        IsTurnOfOne (P.meaning problem.now) nodes before.queue.capacity before flow (state_of C.seat search.new)) }
     ensures stops { IfErr result (IsStop (P.meaning problem.now) nodes (C.seat search.old.pass).capacity) }
 {
     left_rises();

@@ -18,7 +18,7 @@ const FEW: usize = 4;
 
 const SOME: usize = 16;
 
-const MOST: usize = MAX_MACHINES as usize;
+const MOST_MACHINES: usize = MAX_MACHINES as usize;
 
 // When a job that is ready at this time has finished these operations at the earliest. It adds to the
 // machines' loads what the operations ask of them. One pass.
@@ -70,7 +70,7 @@ impl Shop {
         } else if count <= SOME {
             self.bound_with::<SOME>(steps, jobs, machines)
         } else {
-            self.bound_with::<MOST>(steps, jobs, machines)
+            self.bound_with::<MOST_MACHINES>(steps, jobs, machines)
         }
     }
 

@@ -16,7 +16,8 @@ pub use knapsack::{
 };
 pub use limits::{
     MAX_COMMANDS, MAX_ITEMS, MAX_JOBS, MAX_KNAPSACK_CAPACITY, MAX_LANES, MAX_MACHINES,
-    MAX_MADE_INSERTS, MAX_MADE_SHOP, MAX_OPERATIONS, MAX_STATED, MAX_TOTAL, MAX_WEIGHT,
+    MAX_MADE_INSERTS, MAX_MADE_NUMBER, MAX_MADE_SHOP, MAX_MADE_TIME, MAX_OPERATIONS, MAX_STATED,
+    MAX_TOTAL, MAX_WEIGHT,
 };
 pub use making::{make_knapsack, make_script, make_shop, smallest_made, states_by_hand};
 pub use plan::{

@@ -26,5 +26,9 @@ pub const MAX_LANES: u32 = MAX_SEATS;
 pub const MAX_COMMANDS: u32 = 1_048_576;
 /// The greatest size of a shop that is made.
 pub const MAX_MADE_SHOP: u32 = 32;
+/// The greatest weight and value of an item that is made. Both are 1 at least.
+pub const MAX_MADE_NUMBER: u32 = 100;
+/// The greatest time of an operation that is made. It is 1 at least.
+pub const MAX_MADE_TIME: u32 = 20;
 /// How many inserts a lane that is made has at most.
 pub const MAX_MADE_INSERTS: u32 = 1_000;

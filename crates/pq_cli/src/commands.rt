@@ -276,8 +276,8 @@ fn on_problem(
     }
 }
 
-// A best plan of the problem that is named, found by a search over a queue of this kind. A problem has its one line
-// here too: no trait can hand on that what threads share of it may be shared.
+// A best plan of the problem that is named, found by a search over a queue of this kind. A problem has a line here too:
+// one trait does not do for a search by one thread and one by several.
 fn solve_named<Rt: Threads + Wait + Sync, Q: BoundedQueue>(
     rt: &Rt,
     alloc: Global,

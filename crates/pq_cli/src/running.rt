@@ -105,11 +105,7 @@ pub fn run<Rt: Threads + Wait + Sync, I: Source, O: Sink, E: Sink, G: Gate>(
     run_on::<Rt, HuntHeap<&G>, I, O, E>(rt, alloc, words, input, output, faults, gate)
 }
 
-/// Runs the command that the words say, where a queue of several callers is of this kind, with this gate.
-///
-/// As `run_still` does, which serves the commands that need no threads. `trace` runs each lane of its script in a
-/// thread of its own, `solve` and `prove` each of their workers, and `drill` both; they wait for all of them. The
-/// workers tell the gate each node that they have taken.
+/// As `run`, where a queue of several callers is of this kind, with a gate of its kind.
 pub fn run_on<Rt: Threads + Wait + Sync, H: BoundedQueue, I: Source, O: Sink, E: Sink>(
     rt: &Rt,
     alloc: Global,

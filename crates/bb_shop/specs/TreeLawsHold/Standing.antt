@@ -4,6 +4,7 @@ use Rattle.std.specs.Prelude.{max, All}
 use Rattle.std.proofs.lemmas.Bool.{cases_lt}
 use Rattle.std.proofs.lemmas.List.{length-map, length-replicate, length_push, map-set, take-replicate}
 use Rattle.std.proofs.lemmas.List.Elements.{All-head, All-tail, All-get_or}
+use Rattle.bb_problem.specs.Limits.{cost_limit}
 use Rattle.bb_problem.specs.Tree.{below}
 use Rattle.bb_problem.specs.Expanding.{StandBelow}
 use Rattle.inst_text.specs.declared.shop.Operation.{Operation}
@@ -224,7 +225,7 @@ pub left_count : (s : JobShop) (node : Node) → IsJobShop s → FitTo s node.st
 left_count s node shop fit = omega (arith, length-left_in s.machines node.steps, fit.each_step, shop.jobs)
 
 -- a plan that is made costs no more than all times
-pub plan_within : (s : JobShop) (order : List ℕ) (starts : List (List ℕ)) → IsJobShop s → IsPlanOf s order starts → makespan s starts < 67108864
+pub plan_within : (s : JobShop) (order : List ℕ) (starts : List (List ℕ)) → IsJobShop s → IsPlanOf s order starts → makespan s starts < cost_limit
 plan_within s order starts shop plan =
     let is = plan.is_made in
     omega (arith, ap (makespan s) (plan.starts_are ∙ ap (λ (x : State). x.starts) is.made), cost-within s is.name shop is.ordered, shop.times)

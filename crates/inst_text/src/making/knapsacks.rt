@@ -5,12 +5,10 @@ ghost use Rattle.inst_text.specs.Limits.{max_items, max_made_number};
 ghost use Rattle.inst_text.specs.Generator.{next_state, item_from, made_knapsack};
 
 use crate::knapsack::{Item, Items};
+use crate::limits::MAX_MADE_NUMBER;
 use crate::making::generator::Generator;
 use pq_io::NoMemory;
 use std::alloc::Global;
-
-// The greatest weight and the greatest value of an item that is made.
-const MOST: u32 = 100;
 
 // An item whose weight and value are drawn.
 fn next_item(generator: &mut Generator) -> Item
@@ -18,8 +16,8 @@ fn next_item(generator: &mut Generator) -> Item
     ensures weight { result.weight ≤ max_made_number }
     ensures state { generator.new.state ≡ next_state (next_state generator.old.state) }
 {
-    let weight = 1 + generator.draw(MOST);
-    let value = 1 + generator.draw(MOST);
+    let weight = 1 + generator.draw(MAX_MADE_NUMBER);
+    let value = 1 + generator.draw(MAX_MADE_NUMBER);
     Item { weight, value }
 }
 

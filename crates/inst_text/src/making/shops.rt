@@ -4,13 +4,11 @@ ghost use Rattle.std.specs.Prelude.{◌≡◌, ◌≤◌, ◌<◌, ◌+◌, ◌*
 ghost use Rattle.inst_text.specs.Limits.{max_made_shop};
 ghost use Rattle.inst_text.specs.Generator.{state_after, drawn, next_state, made_row, made_shop};
 
+use crate::limits::MAX_MADE_TIME;
 use crate::making::generator::Generator;
 use crate::shop::{Jobs, Operation};
 use pq_io::NoMemory;
 use std::alloc::Global;
-
-// The greatest time of an operation that is made.
-const MOST: u32 = 20;
 
 // A job of so many operations, on the machines from a drawn one on.
 fn next_row(alloc: Global, generator: &mut Generator, size: u32) -> Result<Vec<Operation>, NoMemory>
@@ -23,7 +21,7 @@ fn next_row(alloc: Global, generator: &mut Generator, size: u32) -> Result<Vec<O
     let mut row = Vec::with_capacity(alloc, size as usize)?;
     for step in 0..size {
         let machine = (first + step) % size;
-        let time = 1 + generator.draw(MOST);
+        let time = 1 + generator.draw(MAX_MADE_TIME);
         row.push(Operation { machine, time })?;
     }
     Ok(row)

@@ -1,6 +1,6 @@
 //! Calls of a queue with one seat, and whether its answers are those that are wanted.
-ghost use Rattle.std.specs.Prelude.{◌≡◌, ◌+◌, ◌-◌, ◌^◌, ◌<◌, ◌≤◌, length};
-ghost use Rattle.pq_api.specs.Limits.{call_limit};
+ghost use Rattle.std.specs.Prelude.{◌≡◌, ◌+◌, ◌-◌, ◌<◌, ◌≤◌, length};
+ghost use Rattle.pq_api.specs.Limits.{call_limit, check_limit};
 ghost use Rattle.pq_api.specs.Checks.{IsSameSeat};
 
 use crate::{Below, BoundedQueue, CloseRefusal, Closed, Inserted, Removed};
@@ -136,7 +136,7 @@ pub fn answers_are<R: Wait + Sync, Q: BoundedQueue>(
     left: &[Entry],
 ) -> Result<(), CheckFault>
     requires room { (1 ≤ capacity) × (capacity ≤ Q.CAPACITY) }
-    requires few { length acts.now < 2 ^ 20 }
+    requires few { length acts.now < check_limit }
 {
     let (queue, mut passes) = Q::open(alloc, capacity, 1, gate)?;
     let mut pass = passes.remove(0);

@@ -1,7 +1,7 @@
 //! A call that is held at a point of its work, while another seat makes calls.
-ghost use Rattle.std.specs.Prelude.{◌≡◌, ◌+◌, ◌-◌, ◌^◌, ◌<◌, ◌≤◌, length};
+ghost use Rattle.std.specs.Prelude.{◌≡◌, ◌+◌, ◌-◌, ◌<◌, ◌≤◌, length};
 ghost use denote.Param.Send.{IsSync};
-ghost use Rattle.pq_api.specs.Limits.{call_limit};
+ghost use Rattle.pq_api.specs.Limits.{call_limit, check_limit};
 ghost use Rattle.pq_api.specs.Checks.{IsSameSeat, AreAlone};
 
 use crate::checks::calls::{CheckFault, call, is_closed};
@@ -207,7 +207,7 @@ pub fn beside_a_held_call<R: Threads + Wait + Sync, Q: BoundedQueue>(
 ) -> Result<(), HeldFault>
     requires room { (2 ≤ row.now.capacity) × (row.now.capacity ≤ Q.CAPACITY) }
     requires seats { 2 ≤ Q.SEATS }
-    requires few { length row.now.before.now + length row.now.beside.now < 2 ^ 20 }
+    requires few { length row.now.before.now + length row.now.beside.now < check_limit }
 {
     let (queue, mut passes) = Q::open(alloc, row.capacity, 2, gate)?;
     let second = passes.remove(1);

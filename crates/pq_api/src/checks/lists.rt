@@ -1,5 +1,6 @@
 //! Calls drawn by a seed, beside a sorted list that is stepped by hand.
-ghost use Rattle.std.specs.Prelude.{◌^◌, ◌<◌, ◌≤◌};
+ghost use Rattle.std.specs.Prelude.{◌<◌, ◌≤◌};
+ghost use Rattle.pq_api.specs.Limits.{check_limit};
 
 use crate::BoundedQueue;
 use crate::checks::calls::{CheckFault, call, is_answered, is_closed};
@@ -56,7 +57,7 @@ pub fn against_a_list<R: Wait + Sync, Q: BoundedQueue>(
     calls: u32,
 ) -> Result<(), CheckFault>
     requires room { (1 ≤ capacity) × (capacity ≤ Q.CAPACITY) }
-    requires few { calls < 2 ^ 20 }
+    requires few { calls < check_limit }
 {
     let (queue, mut passes) = Q::open(alloc, capacity, 1, gate)?;
     let mut pass = passes.remove(0);

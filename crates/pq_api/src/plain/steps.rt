@@ -16,8 +16,8 @@ use pq_model::{Act, Known, Receipt, Reply};
 use std::alloc::Global;
 use std::marker::{Brand, PhantomData};
 
-// The table of a plain pass has one view, which keeps the calls. Its one word is read at each step and tells nothing:
-// as no one else makes calls, the pass counts them itself.
+/// The table of a plain pass has one view, which keeps the calls. Its one word is read at each step and tells nothing:
+/// as no one else makes calls, the pass counts them itself.
 pub struct PlainRule;
 
 impl TableRule<(), Known, ()> for PlainRule {
@@ -26,8 +26,10 @@ impl TableRule<(), Known, ()> for PlainRule {
     ghost first = { λ _. fresh 1 };
 }
 
+/// The table that a plain queue and its pass share.
 pub type PlainTable = Table<(), Known, (), PlainRule, Global>;
 
+/// The one seat at it, which the pass has.
 pub type PlainSeat = Seat<(), Known>;
 
 // A kind of call: what is asked and what is answered. Whoever makes a step picks it.
@@ -68,7 +70,7 @@ fn draw_made<C: CallKind>(table: &PlainTable, seat: &mut PlainSeat, act: Act, re
     table.shared.load::<CallStep<C>>(seat, 0);
 }
 
-// The same for a pass that keeps its calls, of which this is a step. `made` counts them.
+/// The same for a pass that keeps its calls, of which this is a step. `made` counts them.
 #[inline]
 pub fn draw(
     table: &PlainTable,
@@ -96,7 +98,7 @@ pub fn draw(
     Receipt { place }
 }
 
-// The view's front rises to the length of the history.
+/// The view's front rises to the length of the history.
 pub fn load(table: &PlainTable, seat: &mut PlainSeat)
     requires own { (seat.old.table_id ≡ table.now.shared.table_id) × (seat.old.table_id.words ≡ 1) }
     ensures own { seat.new.table_id ≡ seat.old.table_id }

@@ -1,6 +1,7 @@
 //! `drill`: lanes on a queue, and a search over one of its kind, both made from a number.
 
 ghost use Rattle.std.specs.Prelude.{◌≡◌, ◌+◌, ◌*◌, ◌≤◌, ◌<◌, length, IfOk, IfErr};
+ghost use Rattle.pq_words.specs.Limits.{place_limit};
 ghost use Rattle.inst_text.specs.Generator.{made_knapsack, made_script};
 ghost use Rattle.inst_text.specs.Limits.{max_made_inserts};
 ghost use Rattle.pq_lanes.specs.Drills.{drill_capacity};
@@ -100,7 +101,7 @@ fn run_made<Rt: Threads + Wait + Sync, Q: BoundedQueue>(
 
 // What a history tells, and nothing of what was asked for.
 fn counted(history: &History) -> Ended
-    requires few { length history.now.marks < 4294967296 }
+    requires few { length history.now.marks < place_limit }
     ensures marks { result.marks ≡ length history.now.marks }
     ensures left { result.left ≡ history.now.left }
 {

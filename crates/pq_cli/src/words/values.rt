@@ -46,7 +46,7 @@ pub fn which_of(word: &[u8]) -> Option<Which>
 }
 
 // The greatest number that the word of an option may spell; no option takes a greater one.
-const OPTION_LIMIT: u64 = 4_294_967_295;
+const OPTION_LIMIT: u64 = u32::MAX as u64;
 
 /// The number that the word spells, at most `OPTION_LIMIT`.
 pub fn number_in(word: &[u8]) -> Option<u64>
