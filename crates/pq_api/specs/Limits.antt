@@ -5,6 +5,6 @@ use Rattle.std.specs.Prelude.{ℕ, ◌^◌}
 abbrev pub call_limit : ℕ
 call_limit = 2 ^ 25
 
--- and what a check of a queue is given is shorter than this
+-- and a check of a queue is given fewer calls, or entries, than this
 abbrev pub check_limit : ℕ
 check_limit = 2 ^ 20

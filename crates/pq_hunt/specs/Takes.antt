@@ -28,7 +28,8 @@ IsBarred act e (Some limit) = (act ≡ RemoveBelow limit) × (limit ≤ e.key)
 IsBarred act e None = MayGet act e
 
 -- A removal may take the root's entry, and has not drawn its place. The seat holds the lock over the size, that of the
--- root and that of the last node, which is another. These are the words of the two nodes.
+-- root and that of the last node, which is another. These are the words of the two nodes, which are not Busy for one
+-- and the same owner. The pass may make one call more.
 pub record MayGetRoot {R : Type 0} (q : Shared R HuntPart) (p : SeatPass R HuntPart) (act : Act) (size : ℕ)
     (root last : HeapWord) : Type 0 where
   pub many : 2 ≤ size

@@ -9,7 +9,7 @@ pub(crate) const HEAP_LOCK: u32 = 24;
 /// How many nodes are in use.
 pub(crate) const SIZE: u32 = 25;
 
-/// How many words a node has.
+/// Nodes lie this many words apart.
 pub(crate) const NODE_WORDS: u32 = 4;
 
 // The nodes' words are counted from here. No node has the number 0, so that node 1 is the first behind it.

@@ -122,7 +122,7 @@ pub fn begin_chunk<R: PoolRule>(shared: &Shared<R>, pass: &mut SeatPass<R>, chun
     );
 }
 
-/// Stores a state, live or young, which counts from then on. The rule has to allow it.
+/// Stores a state that the rule allows, which counts from then on.
 pub fn move_to<R: PoolRule>(shared: &Shared<R>, pass: &mut SeatPass<R>, chunk: u32, state: u64)
     requires builder { HoldsBuilder R.pool shared.now pass.old }
     requires chunk { chunk < length (pool_of R.pool pass.old).stored.states }

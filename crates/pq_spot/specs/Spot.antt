@@ -31,7 +31,7 @@ lock_word = 17
 abbrev pub spot_word : ℕ
 spot_word = 18
 
--- how many words the table has
+-- how many words the table has at least
 abbrev pub words_needed : ℕ
 words_needed = 19
 

@@ -9,6 +9,6 @@ pub record Pending (unsent rest whole : List ℕ) (now : Option (List ℕ)) (bef
 
 -- whatever the text was, it is still on its way
 abbrev pub IsStillPending : Option (List ℕ) → List ℕ → Option (List ℕ) → List ℕ → Type 0
-IsStillPending was held_then now held_now = (first : Option (List ℕ)) (rest whole : List ℕ)
-    → IfSome first (λ before. Pending held_then rest whole was before)
-    → IfSome first (λ before. Pending held_now rest whole now before)
+IsStillPending was unsent_then now unsent_now = (first : Option (List ℕ)) (rest whole : List ℕ)
+    → IfSome first (λ before. Pending unsent_then rest whole was before)
+    → IfSome first (λ before. Pending unsent_now rest whole now before)

@@ -29,7 +29,7 @@ impl TableRule<(), Known, ()> for PlainRule {
 /// The table that a plain queue and its pass share.
 pub type PlainTable = Table<(), Known, (), PlainRule, Global>;
 
-/// The one seat at it, which the pass has.
+/// The one seat at that table, which the pass has.
 pub type PlainSeat = Seat<(), Known>;
 
 // A kind of call: what is asked and what is answered. Whoever makes a step picks it.
@@ -70,7 +70,7 @@ fn draw_made<C: CallKind>(table: &PlainTable, seat: &mut PlainSeat, act: Act, re
     table.shared.load::<CallStep<C>>(seat, 0);
 }
 
-/// The same for a pass that keeps its calls, of which this is a step. `made` counts them.
+/// The mark of a call, by one step, for a pass that keeps its calls. `made` counts them.
 #[inline]
 pub fn draw(
     table: &PlainTable,

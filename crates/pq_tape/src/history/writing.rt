@@ -16,13 +16,13 @@ use pq_model::{Act, Mark, Reply};
 use pq_words::Entry;
 
 // How many bytes are held back before they go to the sink together.
-const BUFFER: usize = 4_096;
+const BUFFER_ROOM: usize = 4_096;
 
 // More than the longest line has.
 const LONGEST_LINE: usize = 128;
 
 // Lines that are written, and did not go to the sink yet.
-type Unsent = ArrayString<BUFFER>;
+type Unsent = ArrayString<BUFFER_ROOM>;
 
 fn push_number(unsent: &mut Unsent, number: u64)
     requires { length unsent.old.bytes + 20 ≤ buffer_room }
@@ -133,7 +133,7 @@ fn push_left(unsent: &mut Unsent, left: u32)
     unsent.push_str("\n");
 }
 
-// Makes room for one more line: where there is too little, what is held goes to the sink.
+// Makes room for one more line: where there is too little, what is unsent goes to the sink.
 fn make_room<K: Sink>(sink: &mut K, unsent: &mut Unsent) -> Result<(), Failed>
     ensures room { OnOk result (length unsent.new.bytes + longest_line ≤ buffer_room) }
     ensures kept { OnOk result
@@ -143,7 +143,7 @@ fn make_room<K: Sink>(sink: &mut K, unsent: &mut Unsent) -> Result<(), Failed>
     ensures prefix { OnErr result (IfSome (K.written sink.old)
         (λ before. WritesPrefix before unsent.old.bytes (K.written sink.new))) }
 {
-    if unsent.len() + LONGEST_LINE > BUFFER {
+    if unsent.len() + LONGEST_LINE > BUFFER_ROOM {
         put_all(sink, unsent.as_str().as_bytes())?;
         unsent.clear();
     }
