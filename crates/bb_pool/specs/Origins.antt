@@ -46,7 +46,7 @@ roots_at x (Some number) = if number == x then 1 else 0
 -- The numbers that a seat drew are the root's, if it drew that, and those of the origins. Each origin is of another
 -- node that was taken, and of none of those that are not expanded yet. Each node that was put is the root, or a child
 -- by an origin.
-pub record IsTraced {N L : Type 0} (m : Meaning N L) (root : Option ℕ) (held : List (Numbered N)) (s : Stored N)
+pub record HasOrigins {N L : Type 0} (m : Meaning N L) (root : Option ℕ) (held : List (Numbered N)) (s : Stored N)
     : Type 0 where
   pub origins : List (Origin N)
   pub each : (o : Origin N) → Contains origins o → IsOrigin m o
@@ -58,17 +58,18 @@ pub record IsTraced {N L : Type 0} (m : Meaning N L) (root : Option ℕ) (held :
       → ((root ≡ Some p.number) × m.stands p.node []) ⊎ ((o : Origin N) × Contains origins o × IsChildOf m o p)
 
 -- Where no node is held, it was so before and is so now, whatever number the root has.
-abbrev pub StaysTraced : {N L : Type 0} → Meaning N L → Stored N → Stored N → Type 0
-StaysTraced m s t = (root : Option ℕ) → IsTraced m root [] s → IsTraced m root [] t
+abbrev pub KeepsOrigins : {N L : Type 0} → Meaning N L → Stored N → Stored N → Type 0
+KeepsOrigins m s t = (root : Option ℕ) → HasOrigins m root [] s → HasOrigins m root [] t
 
 -- It is so, and the origin is one of them.
-pub record HasOrigin {N L : Type 0} (m : Meaning N L) (root : Option ℕ) (o : Origin N) (s : Stored N) : Type 0 where
-  pub traced : IsTraced m root [] s
+pub record IsAmongOrigins {N L : Type 0} (m : Meaning N L) (root : Option ℕ) (o : Origin N) (s : Stored N)
+    : Type 0 where
+  pub traced : HasOrigins m root [] s
   pub has : Contains traced.origins o
 
 -- It is so of workers that were joined into one. Only the first of all draws a number for the root.
-abbrev pub IsTracedFrom : {N L : Type 0} → Meaning N L → ℕ → Stored N → Type 0
-IsTracedFrom m from s = (root : Option ℕ) × (from ≢ 1 → root ≡ None) × IsTraced m root [] s
+abbrev pub HasOriginsFrom : {N L : Type 0} → Meaning N L → ℕ → Stored N → Type 0
+HasOriginsFrom m from s = (root : Option ℕ) × (from ≢ 1 → root ≡ None) × HasOrigins m root [] s
 
 -- of these parts, which lead to nodes with these bounds, those whose nodes are kept
 abbrev pub kept_parts : Option ℕ → List ℕ → List ℕ → List ℕ

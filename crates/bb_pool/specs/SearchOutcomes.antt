@@ -41,7 +41,7 @@ pub record IsFirstStop {P : Type 0} (told : Told) (nodes : ℕ) (answer : Outcom
 -- inserted. Each entry that was removed is handled. Each node that was taken had its entry removed, and is the one that
 -- was put under its number. A leaf that was taken expands to the plan, and it is optimal. The last call of all asked
 -- for an entry below its cost, and there was none.
-pub record IsSolved {N P : Type 0} (m : Meaning N P) (seats capacity : ℕ) (w : Doing N P) : Type 0 where
+pub record HasFoundBest {N P : Type 0} (m : Meaning N P) (seats capacity : ℕ) (w : Doing N P) : Type 0 where
   pub rooted : IsRooted m w.known w.stored.puts
   pub working : AtWork m w
   pub matched : AreMatched w.stored.puts w.stored.takes
@@ -51,5 +51,5 @@ pub record IsSolved {N P : Type 0} (m : Meaning N P) (seats capacity : ℕ) (w :
 -- A best plan, with its cost, is the one that was found by what all workers did. Other outcomes say nothing here.
 abbrev pub IsFoundByAll : {N P : Type 0} → Meaning N P → ℕ → ℕ → Outcome P → Type 0
 IsFoundByAll {N} {P} m seats capacity (outcomes.Best plan cost) =
-    (w : Doing N P) × IsSolved m seats capacity w × IsSomeAnd w.found (λ f. (f.plan ≡ plan) × (f.cost ≡ cost))
+    (w : Doing N P) × HasFoundBest m seats capacity w × IsSomeAnd w.found (λ f. (f.plan ≡ plan) × (f.cost ≡ cost))
 IsFoundByAll m seats capacity _ = Unit {0}

@@ -23,7 +23,7 @@ use Rattle.bb_pool.specs.declared.workers.shared.Shared.{Shared}
 use Rattle.bb_pool.specs.Limits.{idle_calls}
 use Rattle.bb_pool.specs.Room.{all_inserts}
 use Rattle.bb_pool.specs.Working.{HasMade, IsRooted, IsWorking}
-use Rattle.bb_pool.specs.Origins.{IsTraced, IsTracedFrom}
+use Rattle.bb_pool.specs.Origins.{HasOrigins, HasOriginsFrom}
 
 -- What a worker has at one moment: what its pass keeps, what its seats keep, the best plan that it found, and how many
 -- calls it has counted.
@@ -110,7 +110,7 @@ pub record HasBegun {N L : Type 0} (m : Meaning N L) (nodes seats capacity n : �
   pub none : w.told.stops ≡ []
   pub working : AtWork m w
   pub knows : Knows seats capacity w.known
-  pub traced : IsTraced m None [] w.stored
+  pub traced : HasOrigins m None [] w.stored
 
 -- The workers of these numbers, joined into one. Where none of them has set a stop, they have accounted for all that
 -- they removed, and the first of all has put and inserted the root. Each number that they drew is traced. Where one of
@@ -123,5 +123,5 @@ pub record IsTogether {N L : Type 0} (m : Meaning N L) (nodes seats capacity idl
   pub working : w.told.stops ≡ [] → AtWork m w
   pub knows : Knows seats capacity w.known
   pub rooted : from ≡ 1 → w.told.stops ≡ [] → IsRooted m w.known w.stored.puts
-  pub traced : IsTracedFrom m from w.stored
+  pub traced : HasOriginsFrom m from w.stored
   pub first : w.told.first ≡ None → w.told.stops ≡ []

@@ -53,11 +53,11 @@ impl<R: PoolRule> Play<(), View<R::Own>> for StoreState<R> {
 }
 
 /// The store of the first grace bit of a new batch, at which both batches turn.
-pub struct Turn<R> {
+pub struct TurnGrace<R> {
     rule: PhantomData<R>,
 }
 
-impl<R: PoolRule> Play<(), View<R::Own>> for Turn<R> {
+impl<R: PoolRule> Play<(), View<R::Own>> for TurnGrace<R> {
     ghost then = { turns R.rule R.pool };
 }
 

@@ -10,7 +10,7 @@ ghost use Rattle.pq_pool.specs.Steps.{GivenOut};
 
 use crate::PoolRule;
 use crate::layout::{BUILT, CHUNK_WORDS, FIRST_CHUNK, FIRST_STATE, GRACE_BITS, PINS};
-use crate::plays::{Begin, LoadGrace, LoadPin, LoadState, Move, StoreGrace, StoreState, Turn};
+use crate::plays::{Begin, LoadGrace, LoadPin, LoadState, Move, StoreGrace, StoreState, TurnGrace};
 use pq_seats::{SeatPass, Shared};
 
 /// The grace bit of a seat.
@@ -65,7 +65,7 @@ pub fn turn_batches<R: PoolRule>(shared: &Shared<R>, pass: &mut SeatPass<R>, bit
     shared
         .table
         .shared
-        .store::<Turn<R>>(&mut pass.seat, GRACE_BITS + 1, bit);
+        .store::<TurnGrace<R>>(&mut pass.seat, GRACE_BITS + 1, bit);
 }
 
 /// How many chunks the table has.

@@ -22,12 +22,12 @@ use Rattle.bb_pool.specs.Costs.{limit_of}
 use Rattle.bb_pool.specs.Endings.{IsWhole, EndsAt, IsFullMark}
 use Rattle.bb_pool.specs.Limits.{max_nodes}
 use Rattle.bb_pool.specs.Outcomes.{IsOptimal, IsOutcome, IfNodeLimit, outcome_of}
-use Rattle.bb_pool.specs.Origins.{IsTracedFrom}
+use Rattle.bb_pool.specs.Origins.{HasOriginsFrom}
 use Rattle.bb_pool.specs.Underway.{cost_so_far, best_outcome}
 use Rattle.bb_pool.specs.Together.{Doing, AtWork, IsCounted, IsNumbered, IsCause, IsTogether, GoesOn}
 use Rattle.bb_pool.specs.Turns.{EndsIfWhole}
 use Rattle.bb_pool.specs.Runs.{HasRun}
-use Rattle.bb_pool.specs.SearchOutcomes.{IsSearchOutcome, IsSearchStop, IsSolved, IsFoundByAll}
+use Rattle.bb_pool.specs.SearchOutcomes.{IsSearchOutcome, IsSearchStop, HasFoundBest, IsFoundByAll}
 use Rattle.bb_pool.proofs.Several.Turning.{rooted_more}
 use Rattle.bb_pool.proofs.Several.Growing.{best_is_optimal}
 use Rattle.bb_pool.proofs.Several.Room.{full_needs_room}
@@ -37,7 +37,7 @@ use Rattle.bb_pool.proofs.Several.Runs.{numbered_more, follows_further}
 pub whole_of : {N L : Type 0} {seats : ℕ} {w : Doing N L} → IsNumbered seats 1 seats w → IsWhole seats w.known
 whole_of t n is = t.each n is.0 is.1
 
-pub stop_answer : {N L : Type 0} (m : Meaning N L) (nodes seats capacity idle : ℕ) (w : Doing N L) (stop : Stop) → IsLawful m → nodes ≤ max_nodes → IsNumbered seats 1 seats w → IsCounted nodes idle w → Knows seats capacity w.known → IsTracedFrom m 1 w.stored → IsCause nodes w.known w.stored.draws stop
+pub stop_answer : {N L : Type 0} (m : Meaning N L) (nodes seats capacity idle : ℕ) (w : Doing N L) (stop : Stop) → IsLawful m → nodes ≤ max_nodes → IsNumbered seats 1 seats w → IsCounted nodes idle w → Knows seats capacity w.known → HasOriginsFrom m 1 w.stored → IsCause nodes w.known w.stored.draws stop
     → IsSearchStop m nodes capacity seats stop
 stop_answer m nodes seats capacity idle w (stops.NodeLimit asked) laws few t c knows (root, alone, traced) (over, d, has, low, is) =
     let sized : m.tree_size < size_limit → asked ≤ m.tree_size = drawn_within_size m root w.stored nodes traced c.knows (let a = t.parts in let b = t.seats_are in omega arith) laws d asked has low is in (
@@ -59,7 +59,7 @@ stop_answer m nodes seats capacity idle w (stops.Full place) laws few t c (histo
     )
 
 pub solved : {N L : Type 0} {m : Meaning N L} {nodes seats capacity idle : ℕ} {u v w : Doing N L} → IsLawful m → u.told.stops ≡ [] → IsTogether m nodes seats capacity idle 1 seats u → HasRun m nodes idle u v → GoesOn nodes 1 v w → AtWork m w → EndsIfWhole seats capacity w
-    → IsSolved m seats capacity w
+    → HasFoundBest m seats capacity w
 solved {m} {nodes} {seats} {capacity} {idle} {u} {v} {w} laws none t r on work ends =
     let f = follows_further r.follows on.follows in let n = numbered_more f t.numbered in
     let parts : w.told.parts ≡ w.told.seats = let a = n.control_parts in let b = n.control_seats in omega arith in
@@ -80,7 +80,7 @@ best_answer m nodes seats capacity k None ends is = absurd is
 best_answer m nodes seats capacity k (Some f) ends is = (is, k, ends)
 
 -- the best plan is the one that all found
-pub found_by_all : {N L : Type 0} (m : Meaning N L) (seats capacity : ℕ) (w : Doing N L) (found : Option (Found L)) → w.found ≡ found → IsSolved m seats capacity w → IsFoundByAll m seats capacity (best_outcome found)
+pub found_by_all : {N L : Type 0} (m : Meaning N L) (seats capacity : ℕ) (w : Doing N L) (found : Option (Found L)) → w.found ≡ found → HasFoundBest m seats capacity w → IsFoundByAll m seats capacity (best_outcome found)
 found_by_all m seats capacity w None is solved = tt
 found_by_all m seats capacity w (Some f) is solved = (w, solved, subst (λ (o : _). IsSomeAnd o (λ h. (h.plan ≡ f.plan) × (h.cost ≡ f.cost))) (sym is) (refl, refl))
 

@@ -18,7 +18,7 @@ use Rattle.bb_shared.specs.Stores.{numbered, draw_of, with_draw, with_put, with_
 use Rattle.bb_shared.proofs.Counts.{times-cons, times-push, times-append, times_drawn-push, times_drawn-append, in_draw, one_if, same_one, other_none}
 use Rattle.bb_pool.specs.Costs.{is_better}
 use Rattle.bb_pool.specs.Working.{Waiting, kept_of}
-use Rattle.bb_pool.specs.Origins.{Origin, IsOrigin, IsChildOf, is_drawn, IsTraced, HasOrigin, kept_parts, AreLeftOf}
+use Rattle.bb_pool.specs.Origins.{Origin, IsOrigin, IsChildOf, is_drawn, HasOrigins, IsAmongOrigins, kept_parts, AreLeftOf}
 use Rattle.bb_pool.proofs.Members.{none_in_empty, Contains-here, Contains-cases}
 
 -- how many elements pass a test
@@ -42,7 +42,7 @@ in_one o x within = dite (ℕ_discrete o x)
 
 module _ {N L : Type 0} {m : Meaning N L} where
   -- a worker that has done nothing
-  pub traced_new : (seats : ℕ) → IsTraced m None [] (new_stored seats)
+  pub traced_new : (seats : ℕ) → HasOrigins m None [] (new_stored seats)
   traced_new seats = record {
     origins = [];
     each = λ o there. absurd (none_in_empty o there);
@@ -54,7 +54,7 @@ module _ {N L : Type 0} {m : Meaning N L} where
   }
 
   -- the root's number is drawn
-  pub root_drew : {s : Stored N} (o : ℕ) (within : Bool) → IsTraced m None [] s → IsTraced m (Some o) [] (with_draw s (draw_of o 1 within))
+  pub root_drew : {s : Stored N} (o : ℕ) (within : Bool) → HasOrigins m None [] s → HasOrigins m (Some o) [] (with_draw s (draw_of o 1 within))
   root_drew {s} o within t = record {
     origins = t.origins;
     each = t.each;
@@ -67,7 +67,7 @@ module _ {N L : Type 0} {m : Meaning N L} where
 
 module _ {N L : Type 0} {m : Meaning N L} {root : Option ℕ} where
   -- and the root is put under it
-  pub root_put : {s : Stored N} (p : Numbered N) → root ≡ Some p.number → m.stands p.node [] → IsTraced m root [] s → IsTraced m root [] (with_put s p)
+  pub root_put : {s : Stored N} (p : Numbered N) → root ≡ Some p.number → m.stands p.node [] → HasOrigins m root [] s → HasOrigins m root [] (with_put s p)
   root_put {s} p is stands t = record {
     origins = t.origins;
     each = t.each;
@@ -85,7 +85,7 @@ module _ {N L : Type 0} {m : Meaning N L} {root : Option ℕ} where
   }
 
   -- a node is taken
-  pub traced_took : {s : Stored N} (p : Numbered N) → IsTraced m root [] s → IsTraced m root (p ∷ []) (with_take s p)
+  pub traced_took : {s : Stored N} (p : Numbered N) → HasOrigins m root [] s → HasOrigins m root (p ∷ []) (with_take s p)
   traced_took {s} p t = record {
     origins = t.origins;
     each = t.each;
@@ -97,7 +97,7 @@ module _ {N L : Type 0} {m : Meaning N L} {root : Option ℕ} where
   }
 
   -- and is not expanded to children that are kept
-  pub traced_left : {s : Stored N} {held : List (Numbered N)} → IsTraced m root held s → IsTraced m root [] s
+  pub traced_left : {s : Stored N} {held : List (Numbered N)} → HasOrigins m root held s → HasOrigins m root [] s
   traced_left t = record {
     origins = t.origins;
     each = t.each;
@@ -109,7 +109,7 @@ module _ {N L : Type 0} {m : Meaning N L} {root : Option ℕ} where
   }
 
   -- or numbers are drawn for its children
-  pub traced_drew : {s : Stored N} (o : Origin N) → IsOrigin m o → IsTraced m root (o.parent ∷ []) s → HasOrigin m root o (with_draw s o.draw)
+  pub traced_drew : {s : Stored N} (o : Origin N) → IsOrigin m o → HasOrigins m root (o.parent ∷ []) s → IsAmongOrigins m root o (with_draw s o.draw)
   traced_drew {s} o is t = record {
     traced = record {
       origins = t.origins ++ o ∷ [];
@@ -133,7 +133,7 @@ module _ {N L : Type 0} {m : Meaning N L} {root : Option ℕ} where
   }
 
   -- and one of them is put under its number
-  pub origin_put : {s : Stored N} {o : Origin N} (p : Numbered N) → IsChildOf m o p → HasOrigin m root o s → HasOrigin m root o (with_put s p)
+  pub origin_put : {s : Stored N} {o : Origin N} (p : Numbered N) → IsChildOf m o p → IsAmongOrigins m root o s → IsAmongOrigins m root o (with_put s p)
   origin_put {s} {o} p is h = let t = h.traced in record {
     traced = record {
       origins = t.origins;
@@ -151,7 +151,7 @@ module _ {N L : Type 0} {m : Meaning N L} {root : Option ℕ} where
   }
 
   -- two are joined, of which the second drew no number for the root
-  pub traced_joined : {s t : Stored N} → IsTraced m root [] s → IsTraced m None [] t → IsTraced m root [] (stores_joined s t)
+  pub traced_joined : {s t : Stored N} → HasOrigins m root [] s → HasOrigins m None [] t → HasOrigins m root [] (stores_joined s t)
   traced_joined {s} {t} a b = record {
     origins = a.origins ++ b.origins;
     each = λ o there. elim (Contains-append_cases a.origins b.origins o there) [ inl x ↦ a.each o x | inr y ↦ b.each o y ];

@@ -25,7 +25,7 @@ use Rattle.bb_pool.specs.Working.{HasMade, IsRooted}
 use Rattle.bb_pool.specs.Together.{Doing, AtWork, IsCounted, Follows, GoesOn, IsCause, IsNumbered, IsNew, HasBegun, IsTogether, doing, IsOneOf}
 use Rattle.bb_pool.specs.declared.workers.shared.Worker.{Worker}
 use Rattle.bb_pool.specs.declared.workers.shared.Shared.{Shared}
-use Rattle.bb_pool.specs.Origins.{IsTraced, IsTracedFrom}
+use Rattle.bb_pool.specs.Origins.{HasOrigins, HasOriginsFrom}
 use Rattle.bb_pool.specs.Turns.{IsHalt, IsPut}
 use Rattle.bb_pool.specs.Runs.{HasRun, HasStopped, IsStill, IsJoinedOf}
 use Rattle.bb_pool.proofs.Members.{none_in_empty, Contains-here, Contains-cases, Contains-left, Contains-right, Contains-either}
@@ -120,7 +120,7 @@ module _ {N L : Type 0} where
   }
 
   -- a run has ended, without a stop
-  pub run_ended : {m : Meaning N L} {nodes seats capacity idle from to : ℕ} {v w : Doing N L} → v.told.stops ≡ [] → HasRun m nodes (idle_calls + 1) v w → Knows seats capacity w.known → IsTracedFrom m from w.stored → IsTogether m nodes seats capacity idle from to v → IsTogether m nodes seats capacity (idle_calls + 1) from to w
+  pub run_ended : {m : Meaning N L} {nodes seats capacity idle from to : ℕ} {v w : Doing N L} → v.told.stops ≡ [] → HasRun m nodes (idle_calls + 1) v w → Knows seats capacity w.known → HasOriginsFrom m from w.stored → IsTogether m nodes seats capacity idle from to v → IsTogether m nodes seats capacity (idle_calls + 1) from to w
   run_ended {m} {nodes} {from} {to} {v} {w} none r knows traced t = let f = r.follows in record {
     numbered = numbered_more f t.numbered;
     counted = r.counted;
@@ -134,7 +134,7 @@ module _ {N L : Type 0} where
 
   -- a run has ended, and the stop is set
   pub run_stopped : {m : Meaning N L} {nodes seats capacity from to : ℕ} {v w x : Doing N L} {stop : Stop} → v.told.stops ≡ [] → HasStopped nodes v w stop → IsStopSet w.told stop x.told → x.known ≡ w.known → x.stored ≡ w.stored → x.made ≡ w.made → Knows seats capacity x.known
-      → IsTracedFrom m from w.stored → IsNumbered seats from to v → IsTogether m nodes seats capacity (idle_calls + 1) from to x
+      → HasOriginsFrom m from w.stored → IsNumbered seats from to v → IsTogether m nodes seats capacity (idle_calls + 1) from to x
   run_stopped {m} {nodes} {v} {w} {x} {stop} none r set known stored made knows traced t = let f = r.follows in
       let listed : x.told.stops ≡ w.told.stops ++ stop ∷ [] = ap (λ (z : Told). z.stops) set.is in
       let alone : x.told.stops ≡ stop ∷ [] = listed ∙ ap (λ (l : List Stop). l ++ stop ∷ []) (f.stops ∙ none) in record {
@@ -160,7 +160,7 @@ module _ {N L : Type 0} where
         working = λ nil. absurd (let e : stop ∷ [] ≡ [] = sym alone ∙ nil in cc);
         knows = knows;
         rooted = λ _ nil. absurd (let e : stop ∷ [] ≡ [] = sym alone ∙ nil in cc);
-        traced = (traced.0, traced.1, subst (λ (s : Stored N). IsTraced m traced.0 [] s) (sym stored) traced.2);
+        traced = (traced.0, traced.1, subst (λ (s : Stored N). HasOrigins m traced.0 [] s) (sym stored) traced.2);
         first = λ nil. absurd (let e : Some set.first ≡ None = sym (ap (λ (z : Told). z.first) set.is) ∙ nil in cc);
       }
 
@@ -178,7 +178,7 @@ module _ {N L : Type 0} where
   }
 
   -- the first, which has put the root
-  pub root_together : {m : Meaning N L} {nodes seats capacity : ℕ} {v w : Doing N L} → HasRun m nodes idle_calls v w → Knows seats capacity w.known → IsRooted m w.known w.stored.puts → IsTracedFrom m 1 w.stored → HasBegun m nodes seats capacity 1 v → IsTogether m nodes seats capacity idle_calls 1 1 w
+  pub root_together : {m : Meaning N L} {nodes seats capacity : ℕ} {v w : Doing N L} → HasRun m nodes idle_calls v w → Knows seats capacity w.known → IsRooted m w.known w.stored.puts → HasOriginsFrom m 1 w.stored → HasBegun m nodes seats capacity 1 v → IsTogether m nodes seats capacity idle_calls 1 1 w
   root_together r knows rooted traced b = record {
     numbered = numbered_more r.follows b.numbered;
     counted = r.counted;
@@ -292,7 +292,7 @@ together_joined {N} {L} {m} {nodes} {seats} {capacity} {idle} {from} {to} {next}
           subst (λ (l : _). IsRooted m w.known l) (sym (ap (λ (s : _). s.puts) stored)) (subst (λ (k : Known). IsRooted m k (v.stored.puts ++ o.stored.puts)) (sym j.known)
           (rooted_more m v.known (joined_with v.known o.known) v.stored.puts (v.stored.puts ++ o.stored.puts) (joined_grows v.known o.known) (λ p. Contains-left p v.stored.puts o.stored.puts) (a.rooted first both.0)));
       traced = let x = a.traced in let y = b.traced in let none : y.0 ≡ None = y.1 (λ (one : next ≡ 1). omega arith) in
-          (x.0, x.1, subst (λ (s : Stored N). IsTraced m x.0 [] s) (sym stored) (traced_joined x.2 (subst (λ (r : Option ℕ). IsTraced m r [] o.stored) none y.2)));
+          (x.0, x.1, subst (λ (s : Stored N). HasOrigins m x.0 [] s) (sym stored) (traced_joined x.2 (subst (λ (r : Option ℕ). HasOrigins m r [] o.stored) none y.2)));
       first = λ nil. let both = none_first v.told.first o.told.first (sym (ap (λ (z : Told). z.first) told) ∙ nil) in
           stopped ∙ (λ i. a.first both.0 i ++ b.first both.1 i);
     }

@@ -18,7 +18,7 @@ use Rattle.bb_shared.specs.Stores.{KnowsStore, times_drawn, drawn_in_all}
 use Rattle.bb_shared.proofs.Counts.{one_if, other_none, times_drawn-contains, none_counted}
 use Rattle.bb_pool.specs.Searching.{name_at}
 use Rattle.bb_pool.specs.Numbers.{AreNames}
-use Rattle.bb_pool.specs.Origins.{Origin, IsChildOf, is_drawn, roots_at, IsTraced}
+use Rattle.bb_pool.specs.Origins.{Origin, IsChildOf, is_drawn, roots_at, HasOrigins}
 use Rattle.bb_pool.proofs.Members.{none_in_empty, Contains-here, Contains-there, Contains-cases}
 use Rattle.bb_pool.proofs.Numbers.{within_names, within_size}
 use Rattle.bb_pool.proofs.Several.Origins.{count_cons}
@@ -85,7 +85,7 @@ distinct_at (x ∷ xs) (suc i) zero apart a b same = let P : ℕ → Type 0 = λ
     absurd (let bad : nat_eq x (get_or xs i 0) ≡ false = All-get_or P xs i 0 (omega arith) (All-from_recursion P xs apart.0) in let good = eq-eqb x (get_or xs i 0) (sym same) in cc)
 distinct_at (x ∷ xs) (suc i) (suc j) apart a b same = ap suc (distinct_at xs i j apart.1 (omega arith) (omega arith) same)
 
-module _ {N L : Type 0} (m : Meaning N L) (root : Option ℕ) (s : Stored N) (nodes : ℕ) (t : IsTraced m root [] s) (knows : KnowsStore nodes s) (whole : s.parts ≡ s.seats) where
+module _ {N L : Type 0} (m : Meaning N L) (root : Option ℕ) (s : Stored N) (nodes : ℕ) (t : HasOrigins m root [] s) (knows : KnowsStore nodes s) (whole : s.parts ≡ s.seats) where
   drawn_once : (x : ℕ) → x < drawn_in_all s.draws → times_drawn x s.draws ≡ 1
   drawn_once x lt = knows.tiled whole x ∙ ap (λ (b : Bool). if b then 1 else 0) (lt-ltb x (drawn_in_all s.draws) lt)
 

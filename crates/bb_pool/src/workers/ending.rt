@@ -7,7 +7,7 @@ ghost use Rattle.bb_pool.specs.Limits.{idle_calls};
 ghost use Rattle.bb_pool.specs.Working.{lesser_found};
 ghost use Rattle.bb_pool.specs.Together.{doing, IsOneOf, IsTogether};
 ghost use Rattle.bb_pool.specs.Runs.{HasEnded, IsJoinedOf};
-ghost use Rattle.bb_pool.specs.SearchOutcomes.{IsSearchOutcome, IsSearchStop, IsFirstStop, IsSolved, IsFoundByAll};
+ghost use Rattle.bb_pool.specs.SearchOutcomes.{IsSearchOutcome, IsSearchStop, IsFirstStop, HasFoundBest, IsFoundByAll};
 
 use super::shared::{Shared, Worker};
 use super::turn::{Turn, take_turn};
@@ -127,7 +127,7 @@ fn go_alone<R: Wait + Sync, Q: BoundedQueue, P: Problem, G: Gate>(
     requires none { worker.old.control.kept.stops ≡ [] }
     requires together { IsTogether (P.meaning problem.now) shared.now.nodes (Q.seats_of shared.now.queue)
         (Q.capacity_of shared.now.queue) (idle_calls + 1) 1 (Q.seats_of shared.now.queue) (doing Q.known worker.old) }
-    ensures solved { IfOk result (λ _. IsSolved (P.meaning problem.now) (Q.seats_of shared.now.queue)
+    ensures solved { IfOk result (λ _. HasFoundBest (P.meaning problem.now) (Q.seats_of shared.now.queue)
         (Q.capacity_of shared.now.queue) (doing Q.known worker.new)) }
     ensures stopped { IfErr result (IsSearchStop (P.meaning problem.now) shared.now.nodes
         (Q.capacity_of shared.now.queue) (Q.seats_of shared.now.queue)) }

@@ -7,7 +7,7 @@ ghost use Rattle.bb_shared.specs.Stores.{new_store_seat};
 ghost use Rattle.bb_shared.specs.Controls.{new_control_seat};
 ghost use Rattle.bb_pool.specs.Limits.{max_nodes, idle_calls};
 ghost use Rattle.bb_pool.specs.Working.{IsRooted};
-ghost use Rattle.bb_pool.specs.Origins.{IsTracedFrom};
+ghost use Rattle.bb_pool.specs.Origins.{HasOriginsFrom};
 ghost use Rattle.bb_pool.specs.Together.{doing, IsOneOf, IsNew, HasBegun, IsTogether};
 ghost use Rattle.bb_pool.specs.Runs.{HasRun, HasStopped};
 
@@ -137,7 +137,7 @@ fn insert_root<R: Wait + Sync, Q: BoundedQueue, P: Problem>(
         (doing Q.known worker.old) (doing Q.known worker.new)
         × IsRooted (P.meaning problem.now) (Q.known worker.new.pass) worker.new.seat.kept.puts) }
     ensures stopped { IfErr result (HasStopped shared.now.nodes (doing Q.known worker.old) (doing Q.known worker.new)) }
-    ensures traced { IsTracedFrom (P.meaning problem.now) 1 worker.new.seat.kept }
+    ensures traced { HasOriginsFrom (P.meaning problem.now) 1 worker.new.seat.kept }
 {
     let key = problem.bound(&root);
     match shared.store.draw(&mut worker.seat, 1, shared.nodes) {

@@ -4,7 +4,7 @@ ghost use Rattle.std.specs.Prelude.{◌≡◌, ℕ, ◌+◌, ◌<◌, ◌≤◌,
 ghost use Rattle.pq_model.specs.Passes.{Knows};
 ghost use Rattle.pq_api.specs.Answers.{EachAt};
 ghost use Rattle.bb_pool.specs.Limits.{idle_calls};
-ghost use Rattle.bb_pool.specs.Origins.{StaysTraced};
+ghost use Rattle.bb_pool.specs.Origins.{KeepsOrigins};
 ghost use Rattle.bb_pool.specs.Together.{doing, IsOneOf, AtWork, IsCounted, IsTogether};
 ghost use Rattle.bb_pool.specs.Runs.{HasRun, HasStopped, IsReady, HasEnded, IsStill};
 
@@ -96,7 +96,7 @@ fn go_on<R: Wait + Sync, Q: BoundedQueue, P: Problem, G: Gate>(
     ensures ended { IfOk result (λ _. HasRun (P.meaning problem.now) shared.now.nodes (idle_calls + 1)
         (doing Q.known worker.old) (doing Q.known worker.new)) }
     ensures stopped { IfErr result (HasStopped shared.now.nodes (doing Q.known worker.old) (doing Q.known worker.new)) }
-    ensures traced { StaysTraced (P.meaning problem.now) worker.old.seat.kept worker.new.seat.kept }
+    ensures traced { KeepsOrigins (P.meaning problem.now) worker.old.seat.kept worker.new.seat.kept }
 {
     let backoff = Backoff::new();
     let mut was_idle = false;

@@ -14,7 +14,7 @@ ghost use Rattle.bb_shared.specs.Controls.{IsTellable};
 ghost use Rattle.bb_pool.specs.Costs.{limit_of};
 ghost use Rattle.bb_pool.specs.Children.{AreBounds};
 ghost use Rattle.bb_pool.specs.Working.{kept_of};
-ghost use Rattle.bb_pool.specs.Origins.{Origin, IsTraced, StaysTraced, HasOrigin, AreLeftOf};
+ghost use Rattle.bb_pool.specs.Origins.{Origin, HasOrigins, KeepsOrigins, IsAmongOrigins, AreLeftOf};
 ghost use Rattle.bb_pool.specs.Together.{doing, IsOneOf, AtWork, CanGoOn, GoesOn};
 ghost use Rattle.bb_pool.specs.Turns.{HoldsNode, HasExpanded, HasRead, WaitsFrom, AreFree, IsPut, EndsIfWhole};
 ghost use Rattle.bb_pool.specs.Turns.{HasWorked, IsTurn, IsHalt};
@@ -58,7 +58,7 @@ pub(crate) fn take_turn<R: Wait + Sync, Q: BoundedQueue, P: Problem, G: Gate>(
     ensures turn { IfOk result (IsTurn (P.meaning problem.now) shared.now.nodes (Q.seats_of shared.now.queue)
         (Q.capacity_of shared.now.queue) (doing Q.known worker.old) (doing Q.known worker.new)) }
     ensures halt { IfErr result (IsHalt shared.now.nodes (doing Q.known worker.old) (doing Q.known worker.new)) }
-    ensures traced { StaysTraced (P.meaning problem.now) worker.old.seat.kept worker.new.seat.kept }
+    ensures traced { KeepsOrigins (P.meaning problem.now) worker.old.seat.kept worker.new.seat.kept }
 {
     shared.control.opened(&mut worker.control, 1);
     match take_node(rt, problem, shared, gate, worker) {
@@ -144,8 +144,8 @@ fn expand_node<R: Wait + Sync, Q: BoundedQueue, P: Problem>(
         (doing Q.known worker.old) (doing Q.known worker.new)) }
     ensures halt { IfErr result (IsHalt shared.now.nodes (doing Q.known worker.old) (doing Q.known worker.new)) }
     ensures traced { (root : Option ℕ) (number : ℕ)
-        → IsTraced (P.meaning problem.now) root (numbered number child.node ∷ []) worker.old.seat.kept
-        → IsTraced (P.meaning problem.now) root [] worker.new.seat.kept }
+        → HasOrigins (P.meaning problem.now) root (numbered number child.node ∷ []) worker.old.seat.kept
+        → HasOrigins (P.meaning problem.now) root [] worker.new.seat.kept }
 {
     let best = shared.control.best(&mut worker.control);
     if !is_below(child.key, best) {
@@ -211,8 +211,8 @@ fn put_children<R: Wait + Sync, Q: BoundedQueue, P: Problem>(
     ensures traced { (root : Option ℕ) (parent : Numbered P.Node)
         → ((name : List ℕ) → (P.meaning problem.now).stands parent.node name
         → IsExpanded (P.meaning problem.now) name (steps.Branch children))
-        → IsTraced (P.meaning problem.now) root (parent ∷ []) worker.old.seat.kept
-        → IsTraced (P.meaning problem.now) root [] worker.new.seat.kept }
+        → HasOrigins (P.meaning problem.now) root (parent ∷ []) worker.old.seat.kept
+        → HasOrigins (P.meaning problem.now) root [] worker.new.seat.kept }
 {
     let Ok(kept) = bounds(problem, &children, best, &mut worker.keys) else {
         return Err(Stop::NoMemory);
@@ -254,9 +254,9 @@ fn put_kept<R: Wait + Sync, Q: BoundedQueue, P: Problem>(
         (doing Q.known worker.old) (doing Q.known worker.new)) }
     ensures halt { IfErr result (IsHalt shared.now.nodes (doing Q.known worker.old) (doing Q.known worker.new)) }
     ensures traced { (root : Option ℕ) (o : Origin P.Node)
-        → HasOrigin (P.meaning problem.now) root o worker.old.seat.kept
+        → IsAmongOrigins (P.meaning problem.now) root o worker.old.seat.kept
         → AreLeftOf (P.meaning problem.now) best o first children.items worker.old.keys.items
-        → IsTraced (P.meaning problem.now) root [] worker.new.seat.kept }
+        → HasOrigins (P.meaning problem.now) root [] worker.new.seat.kept }
 {
     let mut number = first;
     let mut place = 0;

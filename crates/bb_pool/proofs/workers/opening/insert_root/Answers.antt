@@ -1,7 +1,7 @@
 use Rattle.std.proofs.Common.{ℕ, true, false, Some, [], refl, sym, subst, arith}
 use Rattle.bb_shared.specs.Stores.{KnowsStore, numbered}
 use Rattle.bb_pool.specs.Limits.{idle_calls}
-use Rattle.bb_pool.specs.Origins.{IsTraced}
+use Rattle.bb_pool.specs.Origins.{HasOrigins}
 use Rattle.bb_pool.specs.Together.{doing}
 use Rattle.bb_pool.proofs.Several.Origins.{root_drew, root_put}
 use Rattle.bb_pool.proofs.Several.Counting.{can_go_on, goes_nowhere}
@@ -29,12 +29,12 @@ returns-in-First-clause-stopped g c = let sh = c.args.shared.now in let v = doin
 
 pub returns-in-First-clause-traced : goal.returns-in-First-clause-traced
 returns-in-First-clause-traced g c = let m = g.P.Problem.meaning c.args.problem.now in let first : ℕ = c.in-First.first in let p = numbered first c.args.root in
-    let drew = subst (λ s. IsTraced m (Some first) [] s) (sym c.in-First.ensures.drawn.3) (root_drew first true c.requires.begun.traced) in
-    (Some first, (λ other. absurd (other refl)), subst (λ s. IsTraced m (Some first) [] s) (sym c.put_child.ensures.seat) (root_put p refl c.requires.root drew))
+    let drew = subst (λ s. HasOrigins m (Some first) [] s) (sym c.in-First.ensures.drawn.3) (root_drew first true c.requires.begun.traced) in
+    (Some first, (λ other. absurd (other refl)), subst (λ s. HasOrigins m (Some first) [] s) (sym c.put_child.ensures.seat) (root_put p refl c.requires.root drew))
 
 pub returns-in-Over-clause-traced : goal.returns-in-Over-clause-traced
 returns-in-Over-clause-traced g c = let m = g.P.Problem.meaning c.args.problem.now in let drawn = c.in-Over.ensures.drawn in let first : ℕ = drawn.1 in
-    (Some first, (λ other. absurd (other refl)), subst (λ s. IsTraced m (Some first) [] s) (sym drawn.5) (root_drew first false c.requires.begun.traced))
+    (Some first, (λ other. absurd (other refl)), subst (λ s. HasOrigins m (Some first) [] s) (sym drawn.5) (root_drew first false c.requires.begun.traced))
 
 pub returns-in-Over-clause-stopped : goal.returns-in-Over-clause-stopped
 returns-in-Over-clause-stopped g c = let sh = c.args.shared.now in let v = doing g.Q.SharedQueue.known c.args.worker.now in let drawn = c.in-Over.ensures.drawn in let u = record v { stored = c.draw.new.seat.kept } in

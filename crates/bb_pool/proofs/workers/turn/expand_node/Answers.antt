@@ -2,7 +2,7 @@ use Rattle.std.proofs.Common.{[], refl, sym, ap, subst}
 use Rattle.bb_problem.specs.declared.step.Step.TheVariants as steps
 use Rattle.bb_problem.specs.Expanding.{IsExpanded}
 use Rattle.bb_shared.specs.Stores.{numbered}
-use Rattle.bb_pool.specs.Origins.{IsTraced}
+use Rattle.bb_pool.specs.Origins.{HasOrigins}
 use Rattle.bb_pool.specs.Together.{doing}
 use Rattle.bb_pool.proofs.Several.Origins.{traced_left}
 use Rattle.bb_pool.proofs.Several.Counting.{goes_further, can_go_on}
@@ -46,7 +46,7 @@ pub returns-in-Err-clause-traced : goal.returns-in-Err-clause-traced
 returns-in-Err-clause-traced g c = λ root number t. traced_left t
 
 pub returns-in-Ok-Leaf-clause-traced : goal.returns-in-Ok-Leaf-clause-traced
-returns-in-Ok-Leaf-clause-traced g c = λ root number t. subst (λ s. IsTraced (g.P.Problem.meaning c.args.problem.now) root [] s) (sym (ap (λ s. s.kept) c.keep_plan.ensures.seat)) (traced_left t)
+returns-in-Ok-Leaf-clause-traced g c = λ root number t. subst (λ s. HasOrigins (g.P.Problem.meaning c.args.problem.now) root [] s) (sym (ap (λ s. s.kept) c.keep_plan.ensures.seat)) (traced_left t)
 
 pub returns-in-Ok-Branch-clause-traced : goal.returns-in-Ok-Branch-clause-traced
 returns-in-Ok-Branch-clause-traced g c = let m = g.P.Problem.meaning c.args.problem.now in

@@ -6,7 +6,7 @@ use Rattle.bb_pool.specs.Turns.{AreFree}
 use Rattle.bb_pool.proofs.Several.Expanded.{kept_length}
 use Rattle.bb_pool.proofs.Several.Counting.{goes_further, goes_nowhere, can_go_on}
 use Rattle.bb_pool.specs.Working.{kept_of}
-use Rattle.bb_pool.specs.Origins.{IsTraced, HasOrigin}
+use Rattle.bb_pool.specs.Origins.{HasOrigins, IsAmongOrigins}
 use Rattle.bb_pool.proofs.Members.{Contains-here}
 use Rattle.bb_pool.proofs.Several.Origins.{traced_left, traced_drew, origin_of, is_origin, all_left}
 use Rattle.bb_pool.proofs.Several.Turns.{over_cause, waits_from, none_waits, free_drawn, goes_drew, after_ok, after_err, halt_more}
@@ -64,7 +64,7 @@ returns-in-First-clause-traced g c = let m = g.P.Problem.meaning c.args.problem.
     λ root parent expanded t. let low : parent.number < first = (let below = c.requires.branch.2.below parent (t.still parent (Contains-here parent [])) in let front = c.in-First.ensures.drawn.1 in omega arith) in
     let o = origin_of m best keys first count true parent in
     c.put_kept.ensures.traced root o
-    (subst (λ s. HasOrigin m root o s) (sym c.in-First.ensures.drawn.3) (traced_drew o (is_origin m best children keys first count parent lawful low many expanded true) t))
+    (subst (λ s. IsAmongOrigins m root o s) (sym c.in-First.ensures.drawn.3) (traced_drew o (is_origin m best children keys first count parent lawful low many expanded true) t))
     (all_left m best children keys first count parent lawful low many expanded)
 
 pub returns-in-Over-clause-traced : goal.returns-in-Over-clause-traced
@@ -75,7 +75,7 @@ returns-in-Over-clause-traced g c = let m = g.P.Problem.meaning c.args.problem.n
     let many : length (kept_of best children keys) ≡ count = omega arith in
     λ root parent expanded t. let low : parent.number < first = (let below = c.requires.branch.2.below parent (t.still parent (Contains-here parent [])) in let front = drawn.3 in omega arith) in
     let o = origin_of m best keys first count false parent in
-    subst (λ s. IsTraced m root [] s) (sym drawn.5) (traced_drew o (is_origin m best children keys first count parent lawful low many expanded false) t).traced
+    subst (λ s. HasOrigins m root [] s) (sym drawn.5) (traced_drew o (is_origin m best children keys first count parent lawful low many expanded false) t).traced
 
 pub returns-in-Over-clause-halt : goal.returns-in-Over-clause-halt
 returns-in-Over-clause-halt g c = let sh = c.args.shared.now in let v = doing g.Q.SharedQueue.known c.args.worker.now in let drawn = c.in-Over.ensures.drawn in (

@@ -3,7 +3,7 @@ use Rattle.std.specs.Prelude.{All}
 use Rattle.std.proofs.lemmas.List.Elements.{All-get_or}
 use Rattle.pq_words.specs.Limits.{key_limit}
 use Rattle.bb_shared.specs.Stores.{numbered}
-use Rattle.bb_pool.specs.Origins.{IsTraced, HasOrigin, AreLeftOf}
+use Rattle.bb_pool.specs.Origins.{HasOrigins, IsAmongOrigins, AreLeftOf}
 use Rattle.bb_pool.specs.Together.{doing}
 use Rattle.bb_pool.proofs.OnePass.Putting.{first_key}
 use Rattle.bb_pool.proofs.Several.Origins.{left_less, left_child, left_more, origin_put}
@@ -99,7 +99,7 @@ loop-node-preserved g c =
       traced = λ root o has left. let h = c.loop-node.invariant.traced root o has left in
           let a = subst (λ xs. AreLeftOf m c.args.best o c.loop-node.number xs (drop place keys)) steps h.1 in
           let b = subst (λ ks. AreLeftOf m c.args.best o c.loop-node.number (c.in-Some.node ∷ c.next.new.self.rest.items) ks) first a in (
-            subst (λ s. HasOrigin m root o s) (sym c.put_child.ensures.seat) (origin_put (numbered c.loop-node.number c.in-Some.node) (left_child (sym c.if-not-is_below.ensures) b) h.0),
+            subst (λ s. IsAmongOrigins m root o s) (sym c.put_child.ensures.seat) (origin_put (numbered c.loop-node.number c.in-Some.node) (left_child (sym c.if-not-is_below.ensures) b) h.0),
             subst (λ ks. AreLeftOf m c.args.best o (c.loop-node.number + 1) c.next.new.self.rest.items (drop (place + 1) ks)) (sym same) (left_more (sym c.if-not-is_below.ensures) b),
           );
     }
@@ -112,7 +112,7 @@ returns-in_err-put_child-clause-traced g c = let m = g.P.Problem.meaning c.args.
     λ root o has left. let h = c.loop-node.invariant.traced root o has left in
     let a = subst (λ xs. AreLeftOf m c.args.best o c.loop-node.number xs (drop place keys)) steps h.1 in
     let b = subst (λ ks. AreLeftOf m c.args.best o c.loop-node.number (c.in-Some.node ∷ c.next.new.self.rest.items) ks) first a in
-    subst (λ s. IsTraced m root [] s) (sym c.put_child.ensures.seat) (origin_put (numbered c.loop-node.number c.in-Some.node) (left_child (sym c.if-not-is_below.ensures) b) h.0).traced
+    subst (λ s. HasOrigins m root [] s) (sym c.put_child.ensures.seat) (origin_put (numbered c.loop-node.number c.in-Some.node) (left_child (sym c.if-not-is_below.ensures) b) h.0).traced
 
 pub returns-clause-traced : goal.returns-clause-traced
 returns-clause-traced g c = λ root o has left. (c.loop-node.invariant.traced root o has left).0.traced

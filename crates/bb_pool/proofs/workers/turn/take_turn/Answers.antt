@@ -1,6 +1,6 @@
 use Rattle.std.proofs.Common.{rules, [], ◌∷◌, refl, sym, subst}
 use Rattle.bb_shared.specs.Stores.{numbered}
-use Rattle.bb_pool.specs.Origins.{IsTraced}
+use Rattle.bb_pool.specs.Origins.{HasOrigins}
 use Rattle.bb_pool.specs.Together.{doing}
 use Rattle.bb_pool.proofs.Several.Origins.{traced_took}
 use Rattle.bb_pool.proofs.Several.Counting.{goes_further, can_go_on}
@@ -33,11 +33,11 @@ returns-in_ok-expand_node-in-Some-clause-turn g c = let worked = c.in_ok-expand_
 
 pub returns-in_err-expand_node-in-Some-clause-traced : goal.returns-in_err-expand_node-in-Some-clause-traced
 returns-in_err-expand_node-in-Some-clause-traced g c = let m = g.P.Problem.meaning c.args.problem.now in let took = c.in-Some.ensures.took in let p = numbered took.0 c.in-Some.child.node in
-    λ root t. c.expand_node.ensures.traced root took.0 (subst (λ s. IsTraced m root (p ∷ []) s) (sym took.1) (traced_took p t))
+    λ root t. c.expand_node.ensures.traced root took.0 (subst (λ s. HasOrigins m root (p ∷ []) s) (sym took.1) (traced_took p t))
 
 pub returns-in_ok-expand_node-in-Some-clause-traced : goal.returns-in_ok-expand_node-in-Some-clause-traced
 returns-in_ok-expand_node-in-Some-clause-traced g c = let m = g.P.Problem.meaning c.args.problem.now in let took = c.in-Some.ensures.took in let p = numbered took.0 c.in-Some.child.node in
-    λ root t. c.expand_node.ensures.traced root took.0 (subst (λ s. IsTraced m root (p ∷ []) s) (sym took.1) (traced_took p t))
+    λ root t. c.expand_node.ensures.traced root took.0 (subst (λ s. HasOrigins m root (p ∷ []) s) (sym took.1) (traced_took p t))
 
 pub returns-in-None-clause-traced : goal.returns-in-None-clause-traced
-returns-in-None-clause-traced g c = λ root t. subst (λ s. IsTraced (g.P.Problem.meaning c.args.problem.now) root [] s) (sym c.in-None.ensures.same) t
+returns-in-None-clause-traced g c = λ root t. subst (λ s. HasOrigins (g.P.Problem.meaning c.args.problem.now) root [] s) (sym c.in-None.ensures.same) t
