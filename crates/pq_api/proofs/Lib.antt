@@ -1,8 +1,5 @@
 -- What is shown of callers that have a queue's one seat, and of the plain pass.
-pub mod Taking
 pub mod Replayed
 pub mod Places
 pub mod Alone
-pub mod Apart
 pub mod Keeps
-pub mod Filling

@@ -4,4 +4,3 @@ pub mod Answers
 pub mod Closing
 pub mod Plain
 pub mod Laws
-pub mod Checks

@@ -2,7 +2,6 @@
 #![tactic(auto)]
 
 mod answers;
-pub mod checks;
 mod gates;
 mod holds;
 mod laws;

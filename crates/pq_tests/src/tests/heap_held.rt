@@ -3,7 +3,7 @@ ghost use Rattle.std.specs.Prelude.{◌<◌};
 ghost use Rattle.pq_words.specs.Limits.{key_limit};
 
 use pq_api::Point;
-use pq_api::checks::{HeldCall, LateHold, Wanted, beside_a_held_call};
+use pq_checks::{HeldCall, LateHold, Wanted, beside_a_held_call};
 use pq_hunt::HuntHeap;
 use pq_model::{Act, Reply};
 use pq_words::Entry;

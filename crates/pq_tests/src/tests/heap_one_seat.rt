@@ -1,6 +1,6 @@
 //! The heap with one seat, under the checks of every queue.
 use pq_api::Open;
-use pq_api::checks::{against_a_list, one_seat_rows, sorted};
+use pq_checks::{against_a_list, one_seat_rows, sorted};
 use pq_hunt::HuntHeap;
 use pq_words::Entry;
 

@@ -1,6 +1,6 @@
 //! The plain queue under the checks of every queue.
-use pq_api::checks::{CheckFault, against_a_list, answers_are, one_seat_rows, sorted};
 use pq_api::{Open, PlainQueue};
+use pq_checks::{CheckFault, against_a_list, answers_are, one_seat_rows, sorted};
 use pq_model::{Act, Reply};
 use pq_words::Entry;
 

@@ -1,9 +1,0 @@
--- As many calls were made as the number says.
-use Rattle.std.proofs.Common.{◌≡◌, length}
-use Rattle.pq_api.proofs.checks.lists.against_a_list.Given as goal
-
-abbrev pub invariant-loop-number : goal.invariant-loop-number
-invariant-loop-number g l = record {
-  own : g.Q.SharedQueue.belongs l.queue l.pass;
-  count : length (g.Q.SharedQueue.known l.pass).calls ≡ l.number;
-}

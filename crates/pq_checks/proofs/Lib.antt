@@ -1,0 +1,4 @@
+-- What is shown of callers that have a queue's one seat, and of two seats' passes.
+pub mod Taking
+pub mod Apart
+pub mod Filling

@@ -1,0 +1,3 @@
+-- What the checks of queues ask and know.
+pub mod Limits
+pub mod Checks
