@@ -6,7 +6,7 @@ use Rattle.bb_knap.specs.Plans.{value_of, IsFeasible, IsBest, IsCheapest}
 use Rattle.bb_knap.specs.Branching.{tree_of, least_cost, meaning_of}
 use Rattle.pq_cli.specs.declared.refusal.Refusal.{Refusal}
 use Rattle.pq_cli.specs.declared.refusal.Refusal.TheVariants as refusals
-use Rattle.pq_cli.specs.CommandWords.{drill_limits}
+use Rattle.pq_cli.specs.CommandLimits.{drill_limits}
 use Rattle.pq_cli.specs.Drilling.{drill_nodes, greatest_value}
 use Rattle.pq_cli.specs.Using.{IsBestPlan}
 use Rattle.pq_cli.specs.Work.{IsPlanned}

@@ -3,7 +3,7 @@ use Rattle.std.proofs.Common.{◌≡◌, ◌≤◌, ◌∙◌, ◌⊎◌, min, i
 use Rattle.std.specs.Prelude.{IfOk, IfErr, MatchResult}
 use Rattle.bb_pool.specs.Outcomes.{IsOverLimit, IsFullAt}
 use Rattle.pq_cli.specs.declared.answer.Answer.{Answer}
-use Rattle.pq_cli.specs.declared.command.Command.{Command}
+use Rattle.cli_words.specs.declared.command.Command.{Command}
 use Rattle.pq_cli.specs.declared.refusal.Refusal.{Refusal}
 use Rattle.pq_cli.specs.declared.refusal.Refusal.TheVariants as refusals
 use Rattle.pq_cli.specs.declared.status.Status.{Status}

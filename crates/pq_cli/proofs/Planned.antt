@@ -5,7 +5,7 @@ use Rattle.bb_pool.specs.declared.outcome.Outcome.{Outcome}
 use Rattle.bb_pool.specs.declared.outcome.Outcome.TheVariants as outcomes
 use Rattle.bb_pool.specs.Outcomes.{IsOptimal, IsOutcome}
 use Rattle.bb_pool.specs.SearchOutcomes.{IsSearchOutcome}
-use Rattle.pq_cli.specs.declared.limits.Limits.{Limits}
+use Rattle.cli_words.specs.declared.limits.Limits.{Limits}
 use Rattle.pq_cli.specs.Refusals.{plan_of, is_stopped}
 use Rattle.pq_cli.specs.Using.{IsBestPlan}
 use Rattle.pq_cli.specs.Work.{IsPlanned}

@@ -2,10 +2,11 @@
 use Rattle.std.proofs.Common.{◌≡◌, ◌≤◌, ◌*◌, refl, ℕ, Some, arith}
 use Rattle.std.proofs.lemmas.Nat.{mul-le}
 use Rattle.pq_model.specs.Limits.{max_seats, max_capacity}
-use Rattle.pq_cli.specs.declared.command.Command.{Command}
-use Rattle.pq_cli.specs.declared.command.Command.TheVariants.{Solve, Bound, Check, Prove, Verify, Trace, Audit, Make, Drill}
-use Rattle.pq_cli.specs.declared.command.Which.TheVariants.{Plain, Hunt}
-use Rattle.pq_cli.specs.CommandWords.{queue_of, HasLimits, IsDrill, IsDrillWithin, IsShared}
+use Rattle.cli_words.specs.declared.command.Command.{Command}
+use Rattle.cli_words.specs.declared.command.Command.TheVariants.{Solve, Bound, Check, Prove, Verify, Trace, Audit, Make, Drill}
+use Rattle.cli_words.specs.declared.command.Which.TheVariants.{Plain, Hunt}
+use Rattle.cli_words.specs.CommandWords.{queue_of, HasLimits, IsDrill}
+use Rattle.pq_cli.specs.CommandLimits.{IsDrillWithin, IsShared}
 
 -- a drill of the heap is within the heap's limits
 drill_is_within : (workers size : ℕ) → IsDrill Hunt workers size → IsDrillWithin max_seats max_capacity workers size

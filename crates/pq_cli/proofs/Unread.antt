@@ -1,11 +1,11 @@
 -- Words that are read as no command, and how a call ends there.
 use Rattle.std.proofs.Common.{◌≡◌, inl, inr, refl, Option, None, Some, Err}
-use Rattle.pq_cli.specs.declared.command.Command.{Command}
+use Rattle.cli_words.specs.declared.command.Command.{Command}
 use Rattle.pq_cli.specs.declared.refusal.Refusal.TheVariants as refusals
 use Rattle.pq_cli.specs.declared.status.Status.TheVariants as statuses
-use Rattle.pq_cli.specs.declared.words.reading.WordsRefusal.{WordsRefusal}
-use Rattle.pq_cli.specs.declared.words.reading.WordsRefusal.TheVariants.{BadWords, NoMemory}
-use Rattle.pq_cli.specs.CommandWords.{IsReadAs}
+use Rattle.cli_words.specs.declared.reading.WordsRefusal.{WordsRefusal}
+use Rattle.cli_words.specs.declared.reading.WordsRefusal.TheVariants.{BadWords, NoMemory}
+use Rattle.cli_words.specs.CommandWords.{IsReadAs}
 use Rattle.pq_cli.specs.Commands.{duty_of}
 use Rattle.pq_cli.specs.Duties.{Duty, Reads, Writes}
 use Rattle.pq_cli.specs.Refusals.{of_words}

@@ -10,17 +10,17 @@ use Rattle.bb_proof.specs.Texts.{proof_of}
 use Rattle.bb_knap.specs.Branching as knapsacks
 use Rattle.bb_problem.specs.Meaning.{Meaning}
 use Rattle.bb_problem.specs.Tree.{needed}
-use Rattle.pq_cli.specs.declared.command.Branching.TheVariants.{Dispatch}
-use Rattle.pq_cli.specs.declared.command.Kind.{Kind}
-use Rattle.pq_cli.specs.declared.command.Kind.TheVariants.{Knapsack, Shop}
-use Rattle.pq_cli.specs.declared.command.Command.{Command}
-use Rattle.pq_cli.specs.declared.command.Command.TheVariants as commands
+use Rattle.cli_words.specs.declared.command.Branching.TheVariants.{Dispatch}
+use Rattle.cli_words.specs.declared.command.Kind.{Kind}
+use Rattle.cli_words.specs.declared.command.Kind.TheVariants.{Knapsack, Shop}
+use Rattle.cli_words.specs.declared.command.Command.{Command}
+use Rattle.cli_words.specs.declared.command.Command.TheVariants as commands
 use Rattle.pq_cli.specs.declared.commands.task.Task.{Task}
 use Rattle.pq_cli.specs.declared.commands.task.Task.TheVariants.{Solve, Bound, Check}
-use Rattle.pq_cli.specs.declared.limits.Limits.{Limits}
+use Rattle.cli_words.specs.declared.limits.Limits.{Limits}
 use Rattle.pq_cli.specs.declared.status.Status.TheVariants as statuses
 use Rattle.pq_cli.specs.Auditing.{IsAudited}
-use Rattle.pq_cli.specs.CommandWords.{limits_of}
+use Rattle.cli_words.specs.CommandWords.{limits_of}
 use Rattle.pq_cli.specs.Drilling.{drill_text}
 use Rattle.pq_cli.specs.Tracing.{IsTraced, lanes_on}
 use Rattle.pq_cli.specs.Proving.{IsProved, IsProofTooLong, IsVerified}

@@ -1,9 +1,5 @@
--- What the words, the commands and the statuses of the program mean.
+-- What the commands and the statuses of the program mean.
 pub mod Statuses
-pub mod Words
-pub mod Sayings
-pub mod CommandWords
-pub mod Parser
 pub mod Texts
 pub mod Drilling
 pub mod Answers
@@ -14,6 +10,7 @@ pub mod Work
 pub mod Duties
 pub mod Auditing
 pub mod Tracing
+pub mod CommandLimits
 pub mod Proving
 pub mod Commands
 pub mod Refusals

@@ -5,10 +5,10 @@ use Rattle.bb_problem.specs.Meaning.{Meaning}
 use Rattle.bb_knap.specs.Branching as knapsacks
 use Rattle.bb_shop.specs.Branching as shops
 use Rattle.bb_onemach.specs.Branching as active_shops
-use Rattle.pq_cli.specs.declared.command.Branching.{Branching}
-use Rattle.pq_cli.specs.declared.command.Branching.TheVariants.{Dispatch, Active}
-use Rattle.pq_cli.specs.declared.command.Kind.{Kind}
-use Rattle.pq_cli.specs.declared.command.Kind.TheVariants.{Knapsack, Shop}
+use Rattle.cli_words.specs.declared.command.Branching.{Branching}
+use Rattle.cli_words.specs.declared.command.Branching.TheVariants.{Dispatch, Active}
+use Rattle.cli_words.specs.declared.command.Kind.{Kind}
+use Rattle.cli_words.specs.declared.command.Kind.TheVariants.{Knapsack, Shop}
 use Rattle.pq_cli.specs.declared.status.Status.TheVariants as statuses
 use Rattle.pq_cli.specs.Texts.{feasible_text}
 use Rattle.pq_cli.specs.Using.{Texts, IsSolution, IsChecked}

@@ -13,7 +13,7 @@ use Rattle.bb_proof.specs.Tokens.{proof_limit, canonical}
 use Rattle.bb_proof.specs.Verdicts.{IsProofVerdict, MeansBest}
 use Rattle.bb_proof.specs.Verdicts as verdicts
 use Rattle.bb_proof.specs.Texts.{proof_of, proof_text}
-use Rattle.pq_cli.specs.declared.limits.Limits.{Limits}
+use Rattle.cli_words.specs.declared.limits.Limits.{Limits}
 use Rattle.pq_cli.specs.declared.status.Status.{Status}
 use Rattle.pq_cli.specs.declared.status.Status.TheVariants as statuses
 use Rattle.pq_cli.specs.Using.{IsBestPlan, HaveRoom}

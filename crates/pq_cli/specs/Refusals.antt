@@ -10,8 +10,8 @@ use Rattle.bb_pool.specs.declared.outcome.Outcome.{Outcome}
 use Rattle.bb_pool.specs.declared.outcome.Outcome.TheVariants as outcomes
 use Rattle.pq_cli.specs.declared.refusal.Refusal.{Refusal}
 use Rattle.pq_cli.specs.declared.refusal.Refusal.TheVariants as refusals
-use Rattle.pq_cli.specs.declared.words.reading.WordsRefusal.{WordsRefusal}
-use Rattle.pq_cli.specs.declared.words.reading.WordsRefusal.TheVariants as words
+use Rattle.cli_words.specs.declared.reading.WordsRefusal.{WordsRefusal}
+use Rattle.cli_words.specs.declared.reading.WordsRefusal.TheVariants as words
 use Rattle.pq_cli.specs.declared.status.Status.{Status}
 use Rattle.pq_cli.specs.declared.status.Status.TheVariants as statuses
 

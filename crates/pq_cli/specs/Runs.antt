@@ -2,7 +2,7 @@
 use Rattle.std.specs.Prelude.{ℕ, ◌≡◌, ◌+◌, ◌⊎◌, List, [], drop, Option, Some, None, IfSome, MatchOption}
 use Rattle.pq_io.specs.declared.text.fault.BadInput.{BadInput}
 use Rattle.pq_io.specs.Inputs.{longest_input}
-use Rattle.pq_cli.specs.declared.command.Command.{Command}
+use Rattle.cli_words.specs.declared.command.Command.{Command}
 use Rattle.pq_cli.specs.declared.refusal.Refusal.{Refusal}
 use Rattle.pq_cli.specs.declared.refusal.Refusal.TheVariants as refusals
 use Rattle.pq_cli.specs.declared.status.Status.{Status}

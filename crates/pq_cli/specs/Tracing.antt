@@ -8,8 +8,8 @@ use Rattle.pq_tape.specs.HistoryText.{HasLine, history_text}
 use Rattle.inst_text.specs.Script.{script_of}
 use Rattle.pq_api.specs.Plain.{Plain, held}
 use Rattle.pq_lanes.specs.Tracing.{IsTraceOf}
-use Rattle.pq_cli.specs.declared.command.Which.{Which}
-use Rattle.pq_cli.specs.declared.command.Which.TheVariants as queues
+use Rattle.cli_words.specs.declared.command.Which.{Which}
+use Rattle.cli_words.specs.declared.command.Which.TheVariants as queues
 
 -- how many lanes a script may have on a queue of this capacity
 abbrev pub lanes_on : Which → ℕ → ℕ

@@ -5,7 +5,7 @@ use Rattle.inst_text.specs.declared.plan.Claimed.{Claimed}
 use Rattle.bb_problem.specs.Meaning.{Meaning}
 use Rattle.bb_problem.specs.Tree.{Tree}
 use Rattle.bb_pool.specs.Outcomes.{LeaveRoom}
-use Rattle.pq_cli.specs.declared.limits.Limits.{Limits}
+use Rattle.cli_words.specs.declared.limits.Limits.{Limits}
 use Rattle.pq_cli.specs.declared.status.Status.{Status}
 use Rattle.pq_cli.specs.Texts.{bound_text}
 

@@ -7,7 +7,7 @@ use Rattle.bb_problem.specs.Meaning.{Meaning}
 use Rattle.bb_problem.specs.Tree.{needed}
 use Rattle.bb_pool.specs.Outcomes.{IsOverLimit, IsFullAt}
 use Rattle.pq_cli.specs.declared.answer.Answer.{Answer}
-use Rattle.pq_cli.specs.declared.limits.Limits.{Limits}
+use Rattle.cli_words.specs.declared.limits.Limits.{Limits}
 use Rattle.pq_cli.specs.declared.refusal.Refusal.{Refusal}
 use Rattle.pq_cli.specs.declared.refusal.Refusal.TheVariants as refusals
 use Rattle.pq_cli.specs.declared.status.Status.{Status}

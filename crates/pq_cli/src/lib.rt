@@ -2,11 +2,9 @@
 #![tactic(auto)]
 
 mod answer;
-mod command;
 mod commands;
 mod labelled;
 mod laws;
-mod limits;
 mod plain;
 mod planning;
 mod problem;
@@ -15,13 +13,11 @@ mod refusal;
 mod reporting;
 mod running;
 mod status;
-mod words;
 
-pub use command::{Branching, Command, Kind, Which};
+pub use cli_words::{Branching, Command, Kind, Which, WordsRefusal, read_words, settings_are_said};
 pub use laws::{
     greatest_value_is_best, proofs_are_verified, solutions_are_checked, traces_are_one,
 };
 pub use reporting::report;
 pub use running::{run, run_on, run_still};
 pub use status::Status;
-pub use words::{WordsRefusal, read_words, settings_are_said};

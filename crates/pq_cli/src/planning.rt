@@ -4,15 +4,15 @@ ghost use Rattle.std.specs.Prelude.{◌≡◌, ◌≤◌};
 ghost use Rattle.pq_model.specs.Limits.{max_capacity};
 ghost use Rattle.bb_pool.specs.Outcomes.{IsOutcome};
 ghost use Rattle.bb_pool.specs.SearchOutcomes.{IsSearchOutcome};
-ghost use Rattle.pq_cli.specs.CommandWords.{AreWithin};
+ghost use Rattle.cli_words.specs.CommandWords.{AreWithin};
 ghost use Rattle.pq_cli.specs.Refusals.{plan_of, is_stopped};
 ghost use Rattle.pq_cli.specs.Work.{IsPlanned};
 
-use crate::limits::Limits;
 use crate::plain::plain_pass;
 use crate::refusal::Refusal;
 use bb_pool::{Outcome, search, search_plain};
 use bb_problem::Problem;
+use cli_words::Limits;
 use pq_api::BoundedQueue;
 use std::alloc::Global;
 use std::sync::Wait;

@@ -3,7 +3,7 @@
 ghost use Rattle.std.specs.Prelude.{◌≡◌};
 
 use crate::status::Status;
-use crate::words::WordsRefusal;
+use cli_words::WordsRefusal;
 use pq_io::{BadInput, InputRefusal, NoMemory, ReadRefusal};
 use std::alloc::AllocError;
 

@@ -2,9 +2,9 @@
 
 ghost use Rattle.std.specs.Prelude.{◌≡◌, Some, IfOk, MatchResult};
 ghost use Rattle.pq_model.specs.Limits.{max_seats, max_capacity};
-ghost use Rattle.pq_cli.specs.declared.command.Command.{Command};
+ghost use Rattle.cli_words.specs.declared.command.Command.{Command};
 ghost use Rattle.pq_cli.specs.Answers.{status_in, text_in, IsWritable};
-ghost use Rattle.pq_cli.specs.CommandWords.{command_of, still_command_of, texts};
+ghost use Rattle.cli_words.specs.CommandWords.{command_of, still_command_of, texts};
 ghost use Rattle.pq_cli.specs.Commands.{duty_of};
 ghost use Rattle.pq_cli.specs.Runs.{IsRun, IsRunAndReported, IsAnsweredWhole, IsComplete, IsWritten};
 ghost use Rattle.pq_cli.specs.Statuses.{IsAnswered};
@@ -16,7 +16,7 @@ use crate::commands::{respond, respond_on};
 use crate::refusal::Refusal;
 use crate::reporting::report;
 use crate::status::Status;
-use crate::words::{read_still_words, read_words};
+use cli_words::{read_still_words, read_words};
 use pq_api::{BoundedQueue, Gate};
 use pq_hunt::HuntHeap;
 use pq_io::{Failed, Sink, Source, put_all};

@@ -8,7 +8,7 @@ use Rattle.std.specs.Vec.Iter.{into_iter_items}
 use Rattle.pq_cli.specs.declared.status.Status.{Status}
 use Rattle.pq_cli.specs.declared.status.Status.TheVariants as statuses
 use Rattle.pq_cli.specs.Statuses.{code_of}
-use Rattle.pq_cli.specs.CommandWords.{texts, command_of}
+use Rattle.cli_words.specs.CommandWords.{texts, command_of}
 use Rattle.pq_cli.specs.Runs.{IsRunAndReported, IsReported}
 use Rattle.pq_cli.specs.Streams.{Change, IsSame}
 

@@ -1,14 +1,14 @@
 //! `make`: an instance from a number.
 
 ghost use Rattle.std.specs.Prelude.{◌≡◌, IfOk};
-ghost use Rattle.pq_cli.specs.CommandWords.{IsMadeSize};
+ghost use Rattle.cli_words.specs.CommandWords.{IsMadeSize};
 ghost use Rattle.pq_cli.specs.Commands.{made_text};
 ghost use Rattle.pq_cli.specs.Duties.{IsMade};
 
 use crate::answer::Answer;
-use crate::command::Kind;
 use crate::refusal::Refusal;
 use crate::status::Status;
+use cli_words::Kind;
 use inst_text::{make_knapsack, make_shop, write_knapsack, write_shop};
 use pq_io::NoMemory;
 use std::alloc::Global;

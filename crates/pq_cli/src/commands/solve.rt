@@ -2,17 +2,17 @@
 
 ghost use Rattle.std.specs.Prelude.{◌≡◌, ℕ, List, Ok};
 ghost use Rattle.pq_model.specs.Limits.{max_capacity};
-ghost use Rattle.pq_cli.specs.declared.limits.Limits.{Limits};
-ghost use Rattle.pq_cli.specs.CommandWords.{AreWithin};
+ghost use Rattle.cli_words.specs.declared.limits.Limits.{Limits};
+ghost use Rattle.cli_words.specs.CommandWords.{AreWithin};
 ghost use Rattle.pq_cli.specs.Commands.{solving};
 ghost use Rattle.pq_cli.specs.Work.{Meets, IsPlanned};
 
 use crate::answer::Answer;
-use crate::limits::Limits;
 use crate::planning::{best_plan_alone, best_plan_on};
 use crate::problem::UsedProblem;
 use crate::refusal::Refusal;
 use crate::status::Status;
+use cli_words::Limits;
 use pq_api::BoundedQueue;
 use std::alloc::Global;
 use std::sync::Wait;

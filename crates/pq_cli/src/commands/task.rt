@@ -1,6 +1,6 @@
 //! What a command may ask of a problem.
 
-use crate::limits::Limits;
+use cli_words::Limits;
 
 /// What is to be done with a problem, where that needs no threads.
 #[derive(Clone, Copy, Debug)]

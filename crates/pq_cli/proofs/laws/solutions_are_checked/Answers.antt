@@ -1,7 +1,7 @@
-use Rattle.pq_cli.specs.declared.command.Branching.{Branching}
-use Rattle.pq_cli.specs.declared.command.Branching.TheVariants.{Dispatch, Active}
-use Rattle.pq_cli.specs.declared.command.Kind.{Kind}
-use Rattle.pq_cli.specs.declared.command.Kind.TheVariants.{Knapsack, Shop}
+use Rattle.cli_words.specs.declared.command.Branching.{Branching}
+use Rattle.cli_words.specs.declared.command.Branching.TheVariants.{Dispatch, Active}
+use Rattle.cli_words.specs.declared.command.Kind.{Kind}
+use Rattle.cli_words.specs.declared.command.Kind.TheVariants.{Knapsack, Shop}
 use Rattle.pq_cli.proofs.laws.solutions_are_checked.Goals as goal
 
 of_each : (P : Kind → Branching → Type 0) → ((b : Branching) → P Knapsack b) → P Shop Dispatch → P Shop Active →

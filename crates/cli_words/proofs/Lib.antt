@@ -1,0 +1,13 @@
+pub mod WordSteps
+pub mod SayingsRead
+pub mod ClapApp
+pub mod ClapRows
+pub mod ClapWords
+pub mod ClapSteps
+pub mod ClapWalk
+pub mod ClapGood
+pub mod ClapFound
+pub mod ClapLevels
+pub mod ClapTop
+pub mod ClapEnd
+pub mod ClapReads
