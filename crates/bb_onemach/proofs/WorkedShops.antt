@@ -21,3 +21,6 @@ ft06_bound = refl
 pub in_turn_children : active_children three_in_turn [] ≡ 2 ∷ []
 unfolding state_from dispatched children_of jobs_left soonest active_children
 in_turn_children = refl
+
+-- all of this
+pub ruleset worked_shops = (in_turn_bound, ft06_bound, in_turn_children)

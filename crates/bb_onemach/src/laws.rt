@@ -30,7 +30,7 @@ pub fn active_schedules_are_lawful()
 {}
 
 /// Law: the definitions give what is known of two worked shops.
-#[tactic(auto, using(crate::proofs::WorkedShops::in_turn_bound, crate::proofs::WorkedShops::ft06_bound, crate::proofs::WorkedShops::in_turn_children))]
+#[tactic(auto, using(crate::proofs::WorkedShops::worked_shops))]
 pub fn worked_shops()
     ensures in_turn { root_bound three_in_turn ≡ 20 }
     ensures ft06 { root_bound ft06 ≡ 52 }

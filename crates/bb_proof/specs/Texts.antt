@@ -12,7 +12,8 @@ use Rattle.pq_io.specs.Reading.{◌>>=◌, Read, word_at, number_at, after_word,
 use Rattle.pq_io.specs.Writing.{lines_text}
 use Rattle.inst_text.specs.Limits.{max_stated}
 use Rattle.inst_text.specs.declared.plan.Claimed.{Claimed}
-use Rattle.inst_text.specs.Several.{several, EachLine, Follow, both, whole}
+use Rattle.inst_text.specs.Several.{several, EachLine, Follow}
+pub use Rattle.inst_text.specs.Several.{both, whole}
 use Rattle.inst_text.specs.Knapsack.{Instance, IsInstance, AreNumbers, SpellKnapsack, instance_at, choice_lines}
 use Rattle.inst_text.specs.Plans.{SpellsStated, SpellChoice, choice_at}
 use Rattle.bb_proof.specs.Tokens.{proof_limit}

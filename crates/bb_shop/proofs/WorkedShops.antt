@@ -28,3 +28,6 @@ three_starts = refl
 
 pub three_makespan : makespan three_by_three ((2 ∷ 5 ∷ 7 ∷ []) ∷ (0 ∷ 2 ∷ 7 ∷ []) ∷ (0 ∷ 4 ∷ 7 ∷ []) ∷ []) ≡ 11
 three_makespan = refl
+
+-- all of this
+pub ruleset worked_shops = (ft06_bound, ft06_longest, ft06_machine_bounds, three_children, three_starts, three_makespan)

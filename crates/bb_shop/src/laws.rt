@@ -58,7 +58,7 @@ pub fn best_starts_are_early()
 
 /// Law: the definitions give what is known of two worked shops. At the root of ft06 the longest job takes 47, and
 /// these are the machines' bounds. In the shop of three by three, this order ends at 11.
-#[tactic(auto, using(crate::proofs::WorkedShops::ft06_bound, crate::proofs::WorkedShops::ft06_longest, crate::proofs::WorkedShops::ft06_machine_bounds, crate::proofs::WorkedShops::three_children, crate::proofs::WorkedShops::three_starts, crate::proofs::WorkedShops::three_makespan))]
+#[tactic(auto, using(crate::proofs::WorkedShops::worked_shops))]
 pub fn worked_shops()
     ensures longest { greatest (finishes ft06 (state_of ft06 [])) ≡ 47 }
     ensures machine_bounds { machine_bounds ft06 (state_of ft06 []) ≡ 42 ∷ 33 ∷ 26 ∷ 25 ∷ 52 ∷ 49 ∷ [] }

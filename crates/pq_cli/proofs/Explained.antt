@@ -76,3 +76,6 @@ duty_answers (Writes own) bytes input answer is h = record { unread = is; ended 
 pub duty_writable : (duty : Duty) (bytes : List ℕ) (answer : Answer) → Fulfils duty bytes (Ok answer) → IsWritable answer
 duty_writable (Reads work) bytes answer h = h.2
 duty_writable (Writes own) bytes answer h = h.2
+
+-- what comes of a duty that is fulfilled
+pub ruleset fulfilled = (duty_answers, duty_writable, duty_stops)

@@ -49,7 +49,7 @@ use std::sync::Wait;
 use std::thread::Threads;
 
 /// What the command answers to the input, where it needs no threads.
-#[tactic(auto, using(crate::proofs::Explained::duty_answers, crate::proofs::Explained::duty_writable, crate::proofs::Explained::duty_stops))]
+#[tactic(auto, using(crate::proofs::Explained::fulfilled))]
 pub fn respond<I: Source>(alloc: Global, command: Command, input: &mut I) -> Result<Answer, Refusal>
     requires limits { HasLimits command }
     requires still { IsStill command }
@@ -63,7 +63,7 @@ pub fn respond<I: Source>(alloc: Global, command: Command, input: &mut I) -> Res
 }
 
 /// What the command answers to the input, where a queue of several callers is of this kind.
-#[tactic(auto, using(crate::proofs::Explained::duty_answers, crate::proofs::Explained::duty_writable, crate::proofs::Explained::duty_stops))]
+#[tactic(auto, using(crate::proofs::Explained::fulfilled))]
 pub fn respond_on<Rt: Threads + Wait + Sync, H: BoundedQueue, I: Source>(
     rt: &Rt,
     alloc: Global,

@@ -116,7 +116,7 @@ pub fn read_proof(
 }
 
 // What `read_proof` gives, read off its definition.
-#[tactic(auto, unfolding(crate::specs::Texts::proof_of, inst_text::specs::Several::whole, inst_text::specs::Several::both))]
+#[tactic(auto, unfolding(crate::specs::Texts::proof_of, crate::specs::Texts::whole, crate::specs::Texts::both))]
 fn whole_proof(alloc: Global, bytes: &[u8]) -> Result<(Items, Claimed<Choice>, Proof), ReadRefusal>
     ensures { Gives (λ r. (r.0, (r.1, r.2))) result (proof_of bytes.now) }
 {
