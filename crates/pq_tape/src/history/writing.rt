@@ -1,6 +1,6 @@
 //! The text of a history, written.
-ghost use Rattle.std.specs.Prelude.{◌≡◌, ◌+◌, ◌≤◌, ◌++◌, ◌∷◌, [], All, Some, length, decimal, IfSome, OnOk, OnErr};
-ghost use Rattle.pq_io.specs.Streams.{Rose};
+ghost use Rattle.std.specs.Prelude.{◌≡◌, ◌+◌, ◌≤◌, ◌++◌, ◌∷◌, [], All, Some, length, decimal, is_err, IfSome, OnOk, OnErr};
+ghost use Rattle.pq_io.specs.Streams.{Rose, faults_after};
 ghost use Rattle.pq_io.specs.Gathering.{WritesPrefix};
 ghost use Rattle.pq_io.specs.Writing.{words_text};
 ghost use Rattle.pq_model.specs.declared.marks.Mark.{Mark};
@@ -139,6 +139,7 @@ fn make_room<K: Sink>(sink: &mut K, unsent: &mut Unsent) -> Result<(), Failed>
     ensures kept { OnOk result
         (IsStillPending (K.written sink.old) unsent.old.bytes (K.written sink.new) unsent.new.bytes) }
     ensures counted { K.faults sink.old ≤ K.faults sink.new }
+    ensures once { K.faults sink.new ≡ faults_after (is_err result) (K.faults sink.old) }
     ensures failed { OnErr result (Rose (K.faults sink.old) (K.faults sink.new)) }
     ensures prefix { OnErr result (IfSome (K.written sink.old)
         (λ before. WritesPrefix before unsent.old.bytes (K.written sink.new))) }
@@ -156,7 +157,7 @@ fn make_room<K: Sink>(sink: &mut K, unsent: &mut Unsent) -> Result<(), Failed>
 /// Each mark's act and reply have to be a pair that has a line: an insert answered by `Done` or `Full`, a
 /// removal by `Got` or `Empty`, or a removal below a limit, which is at most `KEY_LIMIT`, by `Got`, `Empty` or
 /// `Above`. `Failed` comes only where the sink's count of faults rose in this call,
-/// and then a prefix of the text, and not all of it, was written. Linear in the text. It takes no memory:
+/// and then a prefix of the text, and not all of it, was written. The first write that fails ends it. Linear in the text. It takes no memory:
 /// lines are held back in 4,096 bytes of the call's own, which go to the sink together.
 pub fn write_history<K: Sink>(
     head: Head,
@@ -168,6 +169,7 @@ pub fn write_history<K: Sink>(
     ensures appended { OnOk result (IfSome (K.written sink.old)
         (λ before. K.written sink.new ≡ Some (before ++ history_text head marks.now left))) }
     ensures counted { K.faults sink.old ≤ K.faults sink.new }
+    ensures once { K.faults sink.new ≡ faults_after (is_err result) (K.faults sink.old) }
     ensures failed { OnErr result (Rose (K.faults sink.old) (K.faults sink.new)) }
     ensures prefix { OnErr result (IfSome (K.written sink.old)
         (λ before. WritesPrefix before (history_text head marks.now left) (K.written sink.new))) }

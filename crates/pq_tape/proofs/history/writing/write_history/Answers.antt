@@ -21,7 +21,7 @@ loop-mark-preserved g c =
     let tail : List (List (List ℕ)) = left_words c.args.left ∷ [] in
     record {
       place = omega arith;
-      counted = omega arith;
+      counted = grind arith;
       pending =
           grows (g.K.Sink.written c.args.sink.now) (g.K.Sink.written c.make_room.new.sink) c.make_room.new.unsent.bytes (words_text (mark_words i m) ++ 10 ∷ [])
           (lines_text (marks_lines i (drop i ms) ++ tail)) c.push_mark.new.unsent.bytes (lines_text (marks_lines (i + 1) (drop (i + 1) ms) ++ tail)) (history_text c.args.head ms c.args.left)
