@@ -6,3 +6,4 @@ pub mod SweepLemmas
 pub mod Protecting
 pub mod Allowing
 pub mod BenchAllows
+pub mod BenchRests

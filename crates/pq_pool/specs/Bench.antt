@@ -37,6 +37,8 @@ pub record BenchFacts (k : Limits) (words : List ℕ) (posts : List (Post PoolVi
 abbrev pub bench_rule : Rule PoolView
 bench_rule = record {
   idle = idle_view;
+  -- it has no pin, however often it had one
+  rests = λ v. v.pinned ≡ false;
   width = λ k. first_chunk;
   locks = λ k i. i == builder_word;
   ties = BenchFacts;

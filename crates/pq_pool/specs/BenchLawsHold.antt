@@ -36,10 +36,11 @@ bench_lawful = record {
     unowed = λ j p to. ⊎_elim (λ a. t.unowed j p a) (λ e. ap (λ (z : Post PoolView). z.owed) (sym e)) (at_snoc ps f p j to);
     unlinked = t.unlinked;
   };
-  spends = λ k s h j n v at plain. let t = h.tied in let ps = map post_of s.views in let f = empty_post bench_rule.idle 0 in let there = at_map post_of s.views j v at in record {
-    pool = go_stays bench_pool.view_of k s.words ps t.pool j v.post f there (ap (λ (z : Post PoolView). z.own.pinned) plain) refl (not_in builder_word);
+  idles = refl;
+  spends = λ k s h j v at rest. let t = h.tied in let ps = map post_of s.views in let f = empty_post bench_rule.idle 0 in let there = at_map post_of s.views j v at in record {
+    pool = go_stays bench_pool.view_of k s.words ps t.pool j v.post f there rest.rests refl (not_in builder_word);
     unwritten = t.unwritten;
-    unowed = unowed_still ps j v.post f there (sym (ap (λ (z : Post PoolView). z.owed) plain)) t.unowed;
+    unowed = unowed_still ps j v.post f there (sym (ap (λ (z : Post PoolView). z.owed) rest.bare)) t.unowed;
     unlinked = t.unlinked;
   };
   takes_over = λ k s h j v at positive ne not_back. absurd (ne (h.tied.unwritten v.post.number (number_low bench_rule k s h j v at positive)));

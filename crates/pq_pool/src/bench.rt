@@ -1,10 +1,12 @@
 //! A rule with the words of the base and of the pool alone, on which the calls of the pool can be made without a queue.
-ghost use Rattle.std.specs.Prelude.{◌≡◌, ℕ, ◌+◌, ◌*◌, ◌≤◌, Contains, IfOk, MatchBool, length, slice_index};
+ghost use Rattle.std.specs.Prelude.{◌≡◌, ℕ, ◌+◌, ◌*◌, ◌≤◌, Contains, IfOk, MatchBool, None, length, slice_index};
 ghost use Rattle.pq_model.specs.Limits.{max_seats};
 ghost use Rattle.pq_model.specs.History.{IsSeat};
+ghost use Rattle.pq_model.specs.Passes.{joined_with};
 ghost use Rattle.pq_api.specs.Answers.{EachAt};
+ghost use Rattle.pq_seats.specs.Rules.{IsBare, IsAtRest};
 ghost use Rattle.pq_seats.specs.Seats.{Begins, limits_for, newcomer};
-ghost use Rattle.pq_seats.specs.Passes.{limits_of, view_of, Belongs, IsSamePass};
+ghost use Rattle.pq_seats.specs.Passes.{limits_of, view_of, known, Belongs, IsSamePass, IsInformed};
 ghost use Rattle.pq_seats.specs.Steps.{Took, Missed, freed_view};
 ghost use Rattle.pq_pool.specs.Limits.{max_chunks};
 ghost use Rattle.pq_pool.specs.Layout.{builder_word, first_chunk, chunk_words};
@@ -82,6 +84,7 @@ impl Bench {
         ensures passes { IfOk result (λ r. EachAt (λ i p. IsLoose r.0 p × (p.number ≡ i + 1)) r.1.items) }
         ensures new { IfOk result (λ r. EachAt (λ i p.
             view_of p ≡ newcomer bench_rule (bench_limits capacity seats chunks) (i + 1)) r.1.items) }
+        ensures rest { IfOk result (λ r. EachAt (λ i p. IsAtRest bench_rule (view_of p).post) r.1.items) }
     {
         let words = bench_words(alloc, chunks, seats)?;
         let (shared, passes) = Shared::open(alloc, words, capacity, seats)?;
@@ -128,7 +131,7 @@ impl Bench {
         shared.unlock(pass, Bench::BUILDER);
     }
 
-    /// `unpin` of the pool, with no leave to ask for.
+    /// `unpin` of the pool, with no leave to ask for. Who held nothing but the pin is at rest then.
     pub fn unpin(shared: &Shared<Bench>, pass: &mut BenchPass)
         requires wide { first_chunk ≤ shared.now.words }
         requires own { Belongs shared.now pass.old }
@@ -136,8 +139,27 @@ impl Bench {
         ensures same { StaysSeated bench_pool shared.now pass.old pass.new }
         ensures loose { IsLoose shared.now pass.new }
         ensures view { pool_of bench_pool pass.new ≡ unpinned (pool_of bench_pool pass.old) }
+        ensures rests { IsBare (view_of pass.old).post → IsAtRest bench_rule (view_of pass.new).post }
     {
         pins::unpin(shared, pass);
+    }
+
+    /// Takes the other pass into this one. If the other is pinned, its pin ends before; and it may have had pins and
+    /// looked under them. It holds nothing else, and no insert is in flight.
+    pub fn join(shared: &Shared<Bench>, pass: &mut BenchPass, other: BenchPass)
+        requires wide { first_chunk ≤ shared.now.words }
+        requires own { Belongs shared.now pass.old × ((view_of pass.old).post.flight ≡ None) }
+        requires other { Belongs shared.now other }
+        requires bare { IsBare (view_of other).post }
+        ensures own { Belongs shared.now pass.new }
+        ensures same { (pass.new.number ≡ pass.old.number) × (pass.new.lanes ≡ pass.old.lanes + other.lanes) }
+        ensures post { (view_of pass.new).post ≡ (view_of pass.old).post }
+        ensures joined { known pass.new ≡ joined_with (known pass.old) (known other) }
+        ensures knows { IsInformed shared.now pass.new }
+    {
+        let mut other = other;
+        Bench::unpin(shared, &mut other);
+        shared.join(pass, other);
     }
 
     /// `publish` of the pool, with no leave to ask for.

@@ -21,7 +21,7 @@ use Rattle.pq_seats.specs.declared.views.Post.{Post}
 use Rattle.pq_seats.specs.declared.views.View.{View}
 use Rattle.pq_seats.specs.Views.{HasFirst, first_calls, later_lanes, numbered, lanes_of, known_of, post_of, empty_post, with_seen}
 use Rattle.pq_seats.specs.Letters.{owed_count, owed_sum, letter_count, letter_sum}
-use Rattle.pq_seats.specs.Rules.{Table, Rule, Lawful, Holds, Fits, IsAccounted, Stands}
+use Rattle.pq_seats.specs.Rules.{Table, Rule, Lawful, Holds, Fits, IsAccounted, IsAtRest, Stands}
 use Rattle.pq_seats.specs.Seats.{Begins, Ended, bare, dealt, dealer, newcomer, deal_left, deal_right, note_of, joined_view, spent}
 use Rattle.pq_seats.proofs.Lists.{sum_set, sum_kept, sum_some, sum_two, put_here, same_at, at_unmap, not_in, in_first, in_later, in_cases, all_in, lanes_of-cons, lanes_known, lane_of, numbered_in, has_length}
 use Rattle.pq_seats.proofs.Lengths.{few_marks}
@@ -131,8 +131,8 @@ module _ {O : Type 0} (R : Rule O) (k : Limits) where
       (omega arith, omega arith)
 
   -- who has nothing in its hands holds no lock
-  unlocked : (v : View O) (n i : ℕ) → v.post ≡ empty_post R.idle n → Contains v.post.locks i → ⊥
-  unlocked v n i plain has = not_in i (subst (λ (p : Post O). Contains p.locks i) plain has)
+  unlocked : (v : View O) (i : ℕ) → IsAtRest R v.post → Contains v.post.locks i → ⊥
+  unlocked v i rest has = not_in i (subst (λ (p : Post O). Contains p.locks i) rest.bare has)
 
   -- a seat comes that has these lanes of another's, and holds nothing; the other goes on with these
   module _ (s : Table O) (h : Holds R k s) (laws : Lawful R) (id : ℕ) (v l r : View O) (n : ℕ) (to : Stands R s id v) (is : r.post ≡ empty_post R.idle n) (kept : l.post ≡ v.post)
@@ -249,26 +249,27 @@ module _ {O : Type 0} (R : Rule O) (k : Limits) where
       (λ t. subst IsBehind (sym (known_joined v w f t)) (IsBehind-joined (known_of v) (known_of w) b c))
       g
 
-  -- a pass takes in another that holds nothing, or a note
-  pub joins : (id other : ℕ) (v w : View O) (n : ℕ) → Lawful R → v.post.number ≢ 0 → v.post.flight ≡ None → w.post ≡ empty_post R.idle n → (w.lanes ≡ []) ⊎ HasFirst w.post.number w.lanes
+  -- a pass takes in another that is at rest, or a note
+  pub joins : (id other : ℕ) (v w : View O) → Lawful R → v.post.number ≢ 0 → v.post.flight ≡ None → IsAtRest R w.post → (w.lanes ≡ []) ⊎ HasFirst w.post.number w.lanes
       → Joins (Holds R k) id v other w (joined_view v w) (spent R)
-  joins id other v w n laws seated quiet plain theirs s h at apart_is to' =
+  joins id other v w laws seated quiet rest theirs s h at apart_is to' =
       let b : View O = joined_view v w in
       let none_left : View O = spent R in
       let to : Stands R s other w = sym (set_else s.views id other b apart_is) ∙ to' in
       let ps = map post_of s.views in
       let ps' : List (Post O) = set ps other (empty_post R.idle 0) in
-      let pto : get_elem? ps other ≡ some (empty_post R.idle n) = at_map post_of s.views other w to ∙ ap some plain in
+      let plain : Post O = empty_post w.post.own w.post.number in
+      let pto : get_elem? ps other ≡ some plain = at_map post_of s.views other w to ∙ ap some rest.bare in
       let posts : map post_of (set (set s.views id b) other none_left) ≡ ps' = map-set post_of (set s.views id b) other none_left ∙
       ap (λ (z : List (Post O)). set z other (empty_post R.idle 0)) (map-set post_of s.views id b ∙ set_again ps id v.post (at_map post_of s.views id v at)) in
       let fv = h.each id v at in
       let fw = h.each other w to in
       let letters : AreKept k.seats s.words ps s.words ps' = λ m seat.
-      let x = sum_kept (λ (p : Post O). owed_count m p.owed) ps other (empty_post R.idle n) (empty_post R.idle 0) pto refl in
-      let y = sum_kept (λ (p : Post O). owed_sum m p.owed) ps other (empty_post R.idle n) (empty_post R.idle 0) pto refl in
+      let x = sum_kept (λ (p : Post O). owed_count m p.owed) ps other plain (empty_post R.idle 0) pto refl in
+      let y = sum_kept (λ (p : Post O). owed_sum m p.owed) ps other plain (empty_post R.idle 0) pto refl in
       (omega arith, omega arith) in
       let mine = fv.first seated in
-      let quiet' : w.post.flight ≡ None = ap (λ (p : Post O). p.flight) plain in
+      let quiet' : w.post.flight ≡ None = ap (λ (p : Post O). p.flight) rest.bare in
       let account : (u : View O) (x : Lane) → Fits R k h.history s.words ps u → Contains u.lanes x → IsAccounted u.post.number u.post.flight u.front x (calls_of x.number h.history) (letter_count x.number s.words ps') (letter_sum x.number s.words ps') =
       λ u x g has. let e = letters x.number (g.ranged x has) in recount u.post.number u.front u.post.flight x (calls_of x.number h.history) _ _ _ _ e.0 e.1 (g.calls x has) in
       record {
@@ -319,22 +320,22 @@ module _ {O : Type 0} (R : Rule O) (k : Limits) where
             (at_set (set s.views id b) other j none_left u at_j));
         holder = λ i is ne. let q = h.holder i is ne in dite (ℕ_discrete q.0 other)
             (λ e. let same : q.1 ≡ w = same_at s.views other q.1 w (subst (λ (z : ℕ). get_elem? s.views z ≡ some q.1) e q.2) to in
-            absurd (unlocked w n i plain (subst (λ (u : View O). Contains u.post.locks i) same q.3)))
+            absurd (unlocked w i rest (subst (λ (u : View O). Contains u.post.locks i) same q.3)))
             (λ d. dite (ℕ_discrete q.0 id)
             (λ e. let same : q.1 ≡ v = same_at s.views id q.1 v (subst (λ (z : ℕ). get_elem? s.views z ≡ some q.1) e q.2) at in
             (id, b, set_else (set s.views id b) other id none_left (λ z. apart_is (sym z)) ∙ put_here s.views id v b at, subst (λ (u : View O). Contains u.post.locks i) same q.3))
             (λ d'. (q.0, q.1, set_else (set s.views id b) other q.0 none_left d ∙ (set_else s.views id q.0 b d' ∙ q.2), q.3)));
-        tied = subst (λ (z : List (Post O)). R.ties k s.words z (left h.history)) (sym posts) (laws.spends k s h other n w to plain);
+        tied = subst (λ (z : List (Post O)). R.ties k s.words z (left h.history)) (sym posts) (laws.spends k s h other w to rest);
       }
 
   -- a pass that has all lanes is alone
-  pub ends : (words : List ℕ) (xs : List (Unit {0})) (id : ℕ) (v : View O) → k.seats ≤ length v.lanes → v.post ≡ empty_post R.idle v.post.number → v.post.number ≢ 0
+  pub ends : (words : List ℕ) (xs : List (Unit {0})) (id : ℕ) (v : View O) → k.seats ≤ length v.lanes → IsAtRest R v.post → v.post.number ≢ 0
       → Final (Seen (Holds R k) id v) words xs → Ended R k v words
-  ends words xs id v all plain seated f =
+  ends words xs id v all rest seated f =
       let s = f.0 in let h = f.1.0 in let at = f.1.1 in
       let ps = map post_of s.views in
       let fv = h.each id v at in
-      let quiet : v.post.flight ≡ None = ap (λ (p : Post O). p.flight) plain in
+      let quiet : v.post.flight ≡ None = ap (λ (p : Post O). p.flight) rest.bare in
       let mine = fv.first seated in
       -- no other view has a lane, and so none has a number
       let bare_other : (j : ℕ) (u : View O) → j ≢ id → Stands R s j u → ¬ (u.post.number ≢ 0) = λ j u d to ne.
@@ -363,7 +364,7 @@ module _ {O : Type 0} (R : Rule O) (k : Limits) where
         counted = h.counted;
         unlocked = λ i is. dite (ℕ_discrete (get_or s.words i 0) 0) (λ e. e) (λ ne. let q = h.holder i is ne in dite (ℕ_discrete q.0 id)
             (λ e. let same : q.1 ≡ v = same_at s.views id q.1 v (subst (λ (z : ℕ). get_elem? s.views z ≡ some q.1) e q.2) at in
-            absurd (unlocked v v.post.number i plain (subst (λ (u : View O). Contains u.post.locks i) same q.3)))
+            absurd (unlocked v i rest (subst (λ (u : View O). Contains u.post.locks i) same q.3)))
             (λ d. absurd (bare_other q.0 q.1 d q.2 ((h.each q.0 q.1 q.2).held i q.3).2)));
         unwritten = λ n seat. let t = lane_there n seat in let none_there = (settled v.post.number v.front v.post.flight t.0 (calls_of t.0.number h.history) _ _ (fv.calls t.0 t.1) quiet).1 in
             subst (λ (z : ℕ). get_or s.words z 0 ≡ 0) t.2 (omega arith);

@@ -10,5 +10,6 @@ pub mod Leaving
 pub mod Dealing
 pub mod Rows
 pub mod Owning
+pub mod Resting
 pub mod Helping
 pub mod Bounds

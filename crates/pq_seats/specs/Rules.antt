@@ -32,8 +32,9 @@ Table O = State (Unit {0}) (View O)
 
 -- What a queue adds. O is what a post holds of the queue's own
 pub record Rule (O : Type 0) : Type 1 where
-  -- the own part of a seat that holds nothing
+  -- the own part of a new seat, and which own parts rest: a seat may end with these, if it holds nothing
   pub idle : O
+  pub rests : O → Type 0
   -- how many words the table has at least
   pub width : Limits → ℕ
   -- which words are locks
@@ -130,6 +131,10 @@ pub record Holds {O : Type 0} (R : Rule O) (k : Limits) (s : Table O) : Type 0 w
   -- and the queue's own facts
   pub tied : R.ties k s.words (map post_of s.views) (left history)
 
+-- The seat has no lock, no insert in flight and no letter to leave. Its own part is what it may be
+abbrev pub IsBare : {O : Type 0} → Post O → Type 0
+IsBare p = p ≡ empty_post p.own p.number
+
 module _ {O : Type 0} (R : Rule O) where
   -- the seat took its letter: its call was placed, or its offer was sent back
   abbrev pub taken_over : Post O → Post O
@@ -142,20 +147,26 @@ module _ {O : Type 0} (R : Rule O) where
   abbrev pub Stands : Table O → ℕ → View O → Type 0
   Stands s j v = get_elem? s.views j ≡ some v
 
+  -- the seat holds nothing, and its own part rests
+  pub record IsAtRest (p : Post O) : Type 0 where
+    pub bare : IsBare p
+    pub rests : R.rests p.own
+
   -- What a queue shows of its part: in each state in which the whole rule holds, the queue's facts outlive the steps
   -- that the base makes on its own
   pub record Lawful : Type 0 where
     -- no lock is the history's word or a letter, and each is one of the words
     pub apart : (k : Limits) (i : ℕ) → R.locks k i ≡ true → max_seats < i
     pub within : (k : Limits) (i : ℕ) → R.locks k i ≡ true → i < R.width k
-    -- a seat that holds nothing may come
+    -- a new seat rests, and may come
+    pub idles : R.rests R.idle
     pub admits : (k : Limits) (s : Table O) (h : Holds R k s) (n : ℕ)
         → (0 < n → letter_count n s.words (map post_of s.views) ≡ 0)
         → (0 < n → (j : ℕ) (v : View O) → Stands s j v → v.post.number ≢ n)
         → R.ties k s.words (map post_of s.views ++ empty_post R.idle n ∷ []) (left h.history)
-    -- and go
-    pub spends : (k : Limits) (s : Table O) (h : Holds R k s) (j n : ℕ) (v : View O)
-        → Stands s j v → v.post ≡ empty_post R.idle n
+    -- and any seat at rest may go
+    pub spends : (k : Limits) (s : Table O) (h : Holds R k s) (j : ℕ) (v : View O)
+        → Stands s j v → IsAtRest v.post
         → R.ties k s.words (slice_set (map post_of s.views) j (empty_post R.idle 0)) (left h.history)
     -- a seat takes the letter that tells the place of its call
     pub takes_over : (k : Limits) (s : Table O) (h : Holds R k s) (j : ℕ) (v : View O)

@@ -2,6 +2,7 @@
 ghost use Rattle.std.specs.Prelude.{◌≡◌, ◌<◌, ◌≤◌, ◌+◌, None, [], max, length};
 ghost use Rattle.pq_model.specs.Passes.{Knows, with_front, joined_with};
 ghost use Rattle.pq_seats.specs.Views.{known_of, empty_post, with_seen};
+ghost use Rattle.pq_seats.specs.Rules.{IsAtRest};
 ghost use Rattle.pq_seats.specs.Seats.{note_of, joined_view};
 ghost use Rattle.pq_seats.specs.Passes.{limits_of, view_of, known, Belongs, IsSamePass, IsInformed};
 
@@ -37,11 +38,12 @@ impl<R: SeatRule> Shared<R> {
     }
 
     /// Takes the other pass, with its lanes and what it has seen, into this one. The other is gone. Neither may have an
-    /// insert in flight, and the other may hold nothing.
+    /// insert in flight, and the other is at rest: it holds nothing, and the rule lets its own part go. That part is
+    /// forgotten; this pass keeps its own.
     pub fn join(&self, pass: &mut SeatPass<R>, other: SeatPass<R>)
         requires own { Belongs self.now pass.old }
         requires quiet { (view_of pass.old).post.flight ≡ None }
-        requires other { Belongs self.now other × ((view_of other).post ≡ empty_post R.rule.idle other.number) }
+        requires other { Belongs self.now other × IsAtRest R.rule (view_of other).post }
         ensures own { Belongs self.now pass.new }
         ensures same { (pass.new.number ≡ pass.old.number) × (pass.new.seat.id ≡ pass.old.seat.id) }
         ensures lanes { pass.new.lanes ≡ pass.old.lanes + other.lanes }

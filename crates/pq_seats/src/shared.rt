@@ -41,7 +41,7 @@ impl<R: SeatRule> Shared<R> {
     ghost use Rattle.pq_model.specs.History.{IsSeat};
     ghost use Rattle.pq_model.specs.Passes.{fresh};
     ghost use Rattle.pq_api.specs.Answers.{EachAt};
-    ghost use Rattle.pq_seats.specs.Views.{empty_post};
+    ghost use Rattle.pq_seats.specs.Rules.{IsAtRest};
     ghost use Rattle.pq_seats.specs.Seats.{limits_for, dealt, newcomer, Begins, Ended};
     ghost use Rattle.pq_seats.specs.Passes.{limits_of, view_of, known, Belongs};
 
@@ -115,12 +115,12 @@ impl<R: SeatRule> Shared<R> {
         }
     }
 
-    /// Ends the table, once all passes are joined into this one and it holds nothing. The words come back, and the
-    /// calls of all passes, put by place, are the whole history. There is no slot to empty before the words are freed.
+    /// Ends the table, once all passes are joined into this one and it is at rest. The words come back, and the calls
+    /// of all passes, put by place, are the whole history. There is no slot to empty before the words are freed.
     pub fn close(self, pass: SeatPass<R>) -> Closed<(), Global>
         requires own { Belongs self pass }
         requires all { self.seats ≤ pass.lanes }
-        requires rests { (view_of pass).post ≡ empty_post R.rule.idle pass.number }
+        requires rests { IsAtRest R.rule (view_of pass).post }
         ensures words { (slots_len result.words ≡ (limits_of self).words) × IsFull result.words }
         ensures slots { slots_len result.slots ≡ 0 }
         ensures ended { Ended R.rule (limits_of self) (view_of pass) (slots_items result.words) }

@@ -17,6 +17,7 @@ use Rattle.pq_seats.specs.Letters.{owed_count, letter_count}
 use Rattle.pq_seats.specs.Rules.{Table, Lawful, Holds, Stands}
 use Rattle.pq_seats.proofs.Lists.{not_in, sum_kept, same_at, put_here}
 use Rattle.pq_seats.proofs.Keeps.{number_low}
+use Rattle.pq_seats.proofs.Resting.{plain_at_rest}
 use Rattle.pq_spot.specs.declared.views.SpotPart.{SpotPart}
 use Rattle.pq_spot.specs.Spot.{token, idle, lock_word, IsOffered, SpotTied, spot_rule}
 
@@ -135,7 +136,8 @@ spot_laws = record {
   apart = λ k i is. let e = eqb-true i 17 is in omega arith;
   within = λ k i is. let e = eqb-true i 17 is in omega arith;
   admits = λ k s h n none_there fresh_number. comes k s h (empty_post idle n) refl refl;
-  spends = λ k s h j n v at plain. goes k s h j v (empty_post idle 0) at (ap (λ (z : P). z.flight) plain) (sym (ap (λ (z : P). z.owed) plain)) (sym (ap (λ (z : P). z.locks) plain)) (sym (ap (λ (z : P). z.own) plain));
+  idles = refl;
+  spends = λ k s h j v at rest. let plain = plain_at_rest spot_rule v.post idle (λ e. e) rest in goes k s h j v (empty_post idle 0) at (ap (λ (z : P). z.flight) plain) (sym (ap (λ (z : P). z.owed) plain)) (sym (ap (λ (z : P). z.locks) plain)) (sym (ap (λ (z : P). z.own) plain));
   takes_over = λ k s h j v at positive word not_back. takes k s h j v _ at positive word refl refl refl;
   takes_back = λ k s h j v at positive e. takes k s h j v _ at positive (λ z. omega arith) refl refl refl;
   informed = λ k s h j v l at positive is. tt;

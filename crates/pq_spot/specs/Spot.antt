@@ -93,6 +93,7 @@ after_draw (RemoveBelow limit) = 0
 abbrev pub spot_rule : Rule SpotPart
 spot_rule = record {
   idle = idle;
+  rests = λ own. own ≡ idle;
   width = λ k. words_needed;
   locks = λ k i. i == lock_word;
   ties = SpotTied;

@@ -3,8 +3,9 @@ use Rattle.std.specs.Prelude.{slice_index_or}
 use Rattle.pq_model.specs.declared.passes.Known.{Known}
 use Rattle.pq_seats.specs.declared.views.Limits.{Limits}
 use Rattle.pq_seats.specs.Seats.{newcomer}
-use Rattle.pq_pool.specs.Bench.{bench_rule}
+use Rattle.pq_pool.specs.Bench.{bench_rule, bench_limits}
 use Rattle.pq_pool.proofs.BenchAllows.{newcomer_is_loose}
+use Rattle.pq_pool.proofs.BenchRests.{newcomer_rests}
 use Rattle.pq_pool.proofs.bench.Bench.open.Goals as goal
 
 pub open-requires : goal.open-requires
@@ -25,3 +26,7 @@ returns-clause-limits c = c.in_ok-shared.ensures.limits
 pub returns-clause-new : goal.returns-clause-new
 returns-clause-new c = λ i d lt. (c.in_ok-shared.ensures.passes i d lt).2
     ∙ ap (λ (k : Limits). newcomer bench_rule k (i + 1)) (returns-clause-limits c)
+
+pub returns-clause-rest : goal.returns-clause-rest
+returns-clause-rest c = λ i d lt. let p = slice_index_or c.in_ok-shared.passes.items i d in
+    newcomer_rests p.seat.me.0 (bench_limits c.args.capacity c.args.seats c.args.chunks) (i + 1) (returns-clause-new c i d lt)

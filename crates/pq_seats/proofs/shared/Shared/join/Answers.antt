@@ -10,6 +10,6 @@ join_seat-requires g c = let seat = c.requires.own in let low = seat.seated.0 in
       other.table,
       other.empty,
       omega arith,
-      joins g.R.SeatRule.rule _ _ _ c.args.pass.now.seat.me.0 theirs _ g.R.SeatRule.lawful (λ e. omega arith) c.requires.quiet c.requires.other.1
+      joins g.R.SeatRule.rule _ _ _ c.args.pass.now.seat.me.0 theirs g.R.SeatRule.lawful (λ e. omega arith) c.requires.quiet c.requires.other.1
           (inr (subst (λ (z : ℕ). HasFirst z theirs.lanes) other.named other.first)),
     )
