@@ -25,6 +25,7 @@ use Rattle.pq_seats.specs.Views.{HasFirst, lanes_of, post_of, empty_post}
 use Rattle.pq_seats.specs.Letters.{back, owed_count, letter_count}
 use Rattle.pq_seats.specs.Rules.{Table, Rule, Holds, Lawful, Stands, taken_over, sent_back}
 use Rattle.pq_seats.proofs.Lists.{sum_kept, sum_two, at_unmap, put_here, not_in, first_in, lanes_of_has, numbered_once}
+use Rattle.pq_seats.proofs.Resting.{plain_at_rest}
 use Rattle.pq_hunt.specs.Flights.{Flight}
 use Rattle.pq_hunt.specs.declared.views.Guard.{Guard}
 use Rattle.pq_hunt.specs.declared.views.HuntPart.{HuntPart}
@@ -246,7 +247,8 @@ hunt_laws = record {
   apart = λ k i is. let r = lock_cases k.capacity i is in ⊎_elim (λ e. omega arith) (λ e. let low = e.0 in omega arith) r;
   within = λ k i is. let r = lock_cases k.capacity i is in ⊎_elim (λ e. omega arith) (λ e. let high = e.1 in omega arith) r;
   admits = λ k s h n none_there fresh_number. admits_one k s h n none_there fresh_number;
-  spends = λ k s h j n v at plain. spends_one k s h j v at n plain;
+  idles = refl;
+  spends = λ k s h j v at rest. spends_one k s h j v at v.post.number (plain_at_rest hunt_rule v.post idle (λ e. e) rest);
   takes_over = λ k s h j v at positive written not_back. takes_one k s h j v at positive (number_low k s h j v at positive).1 written;
   takes_back = λ k s h j v at positive e. let sent = h.tied.sent v.post.number positive (number_low k s h j v at positive).1 in absurd (omega arith);
   informed = λ k s h j v l at positive is. knows_letter v.post.own l (slice_index s.words v.post.number) (h.tied.lettered j v.post (at_map post_of s.views j v at))

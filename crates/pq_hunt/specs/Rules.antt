@@ -22,6 +22,7 @@ KnowsLetter v Back = ⊥
 abbrev pub hunt_rule : Rule HuntPart
 hunt_rule = record {
   idle = idle;
+  rests = λ own. own ≡ idle;
   width = λ k. word_count k.capacity;
   locks = λ k i. is_lock k.capacity i;
   ties = HuntTied;
