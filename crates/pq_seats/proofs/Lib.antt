@@ -12,4 +12,5 @@ pub mod Rows
 pub mod Owning
 pub mod Resting
 pub mod Helping
+pub mod SendingBack
 pub mod Bounds

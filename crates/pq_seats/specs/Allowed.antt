@@ -15,7 +15,7 @@ use Rattle.pq_seats.specs.declared.views.View.{View}
 use Rattle.pq_seats.specs.Views.{known_of, post_of, IsAlike}
 use Rattle.pq_seats.specs.Letters.{letter_count}
 use Rattle.pq_seats.specs.Batches.{Batch, insert_of, marks_of}
-use Rattle.pq_seats.specs.Posts.{with_lock, without_lock, without_letter, placed_post, helped_post}
+use Rattle.pq_seats.specs.Posts.{with_lock, without_lock, without_letter, placed_post, helped_post, owing_back}
 use Rattle.pq_seats.specs.Rules.{Table, Rule, TiedAfter, Holds, Stands}
 
 -- What a queue's own step may make of a post: the number, the locks and the letters owed stay. An insert may come into
@@ -73,6 +73,12 @@ module _ {O : Type 0} (R : Rule O) (k : Limits) (id : ℕ) (v : View O) where
     pub longer : R.length_of new ≡ length h.history + length hs
     pub tied : TiedAfter R k s 0 new id (helped_post v.post hs own (length h.history))
         (left_from (left h.history) (map insert_of hs))
+
+  -- The step makes the word i x, and sends the insert of this owner back: it is in flight, and there is no letter for it
+  pub record SendsBack (owner : ℕ) (own : O) (i x : ℕ) (s : Table O) (h : Holds R k s) : Type 0 where
+    pub entry : Entry
+    pub waiting : Waits s owner entry
+    pub tied : TiedAfter R k s i x id (owing_back v.post owner own) (left h.history)
 
   -- a draw of this many marks: the batch is the one that the rule tells
   abbrev pub MayDraw : Act → ℕ → Type 0

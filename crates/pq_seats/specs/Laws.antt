@@ -13,9 +13,9 @@ use Rattle.pq_seats.specs.declared.views.View.{View}
 use Rattle.pq_seats.specs.Views.{known_of, with_post, with_seen}
 use Rattle.pq_seats.specs.Letters.{back}
 use Rattle.pq_seats.specs.Batches.{Batch, marks_of}
-use Rattle.pq_seats.specs.Posts.{placed_view, helped_post}
+use Rattle.pq_seats.specs.Posts.{placed_view, helped_post, owing_back}
 use Rattle.pq_seats.specs.Rules.{Table, Rule, TiedAfter, Holds, Stands}
-use Rattle.pq_seats.specs.Allowed.{IsOwnChange, Places, Helps}
+use Rattle.pq_seats.specs.Allowed.{IsOwnChange, Places, Helps, SendsBack}
 
 -- the greatest length of a history: each of 16 passes has made 2^25 - 1 calls, which is 536,870,896 together
 abbrev pub history_limit : ℕ
@@ -56,6 +56,13 @@ module _ {O : Type 0} (R : Rule O) where
       → Stands R s id v → v.post.number ≢ 0 → max_seats < i → R.locks k i ≡ false → IsOwnChange v p
       → TiedAfter R k s i x id p (left h.history)
       → Holds R k (stepped_to s i x id (with_post v p))
+
+  -- a step on such a word that sends another seat's insert back
+  abbrev pub BackStepsKeep : Type 0
+  BackStepsKeep = (k : Limits) (s : Table O) (h : Holds R k s) (id : ℕ) (v : View O) (owner : ℕ) (own : O) (i x : ℕ)
+      → Stands R s id v → v.post.number ≢ 0 → max_seats < i → R.locks k i ≡ false
+      → SendsBack R k id v owner own i x s h
+      → Holds R k (stepped_to s i x id (with_post v (owing_back v.post owner own)))
 
   -- a step on the history word that places no mark
   abbrev pub SilentStepsKeep : Type 0

@@ -7,7 +7,7 @@ use Rattle.pq_model.specs.Passes.{call}
 use Rattle.pq_seats.specs.declared.views.Post.{Post}
 use Rattle.pq_seats.specs.declared.views.View.{View}
 use Rattle.pq_seats.specs.Views.{with_made}
-use Rattle.pq_seats.specs.Letters.{without}
+use Rattle.pq_seats.specs.Letters.{back, without}
 use Rattle.pq_seats.specs.Batches.{Batch, own_place, letters_of, letters_from}
 
 -- the list without this number
@@ -39,3 +39,7 @@ module _ {O : Type 0} where
   -- inserts of others were placed alone: the seat owes the letters, and its own insert stays in flight
   abbrev pub helped_post : Post O → List (ℕ × Entry) → O → ℕ → Post O
   helped_post p hs own first = record p { owed = p.owed ++ letters_of first hs; own = own }
+
+  -- the insert of this owner was sent back: the seat owes it the letter Back
+  abbrev pub owing_back : Post O → ℕ → O → Post O
+  owing_back p owner own = record p { owed = p.owed ++ (owner, back) ∷ []; own = own }

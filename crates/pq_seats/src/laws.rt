@@ -1,7 +1,8 @@
 //! Laws of the rule. A queue that makes further kinds of step on the table shows by them that the whole rule holds
 //! after its step, once it has shown its own facts.
 ghost use Rattle.pq_seats.specs.Laws.{FieldsSuffice, SeatsKnow};
-ghost use Rattle.pq_seats.specs.Laws.{OwnStepsKeep, SilentStepsKeep, PlacingStepsKeep, HelpingStepsKeep};
+ghost use Rattle.pq_seats.specs.Laws.{OwnStepsKeep, BackStepsKeep, SilentStepsKeep};
+ghost use Rattle.pq_seats.specs.Laws.{PlacingStepsKeep, HelpingStepsKeep};
 
 use crate::SeatRule;
 
@@ -20,6 +21,12 @@ pub fn seats_know<R: SeatRule>()
 /// Law: a step keeps the rule that changes one word of the queue's own, and the own part of one seat's post.
 pub fn own_steps_keep<R: SeatRule>()
     ensures { OwnStepsKeep R.rule }
+{}
+
+/// Law: so does a step on such a word that sends the insert of another seat back: the seat owes that owner the letter
+/// Back from this step on. The owner's insert is in flight, and no letter is there for it, in its word or owed.
+pub fn back_steps_keep<R: SeatRule>()
+    ensures { BackStepsKeep R.rule }
 {}
 
 /// Law: so does a step on the history word after which the history is as long as before.

@@ -13,8 +13,8 @@ mod shared;
 mod views;
 
 pub use laws::{
-    fields_suffice, helping_steps_keep, own_steps_keep, placing_steps_keep, seats_know,
-    silent_steps_keep,
+    back_steps_keep, fields_suffice, helping_steps_keep, own_steps_keep, placing_steps_keep,
+    seats_know, silent_steps_keep,
 };
 pub use rule::{Ruled, SeatRule};
 pub use shared::{SeatPass, Shared};
