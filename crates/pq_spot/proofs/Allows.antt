@@ -1,6 +1,7 @@
 -- The steps of the spot are allowed.
-use Rattle.std.proofs.Common.{◌≡◌, ◌≢◌, Some, None, ℕ, zero, suc, ◌+◌, ◌-◌, ◌<◌, ◌≤◌, Bool, true, false, cond, eqb, List, [], ◌∷◌, map, length, get_or, set, min, eq-eqb, refl, ap, ◌∙◌, sym, subst, inl, inr, ⊎_elim, arith, Contains}
-use Rattle.std.proofs.Common.{get_or-set_same, get_or-set_other}
+use Rattle.std.proofs.Common.{◌≡◌, ◌≢◌, ◌⊎◌, Some, None, ℕ, zero, suc, ◌+◌, ◌-◌, ◌<◌, ◌≤◌, Bool, true, false, cond, eqb, List, [], ◌∷◌, map, length, get_or, set, min, eq-eqb, refl, ap, ◌∙◌, sym, subst, inl, inr, ⊎_elim, arith, Contains}
+use Rattle.std.proofs.Common.{get_or-set_same, get_or-set_other, ◌++◌}
+use Rattle.std.proofs.lemmas.List.{append-nil}
 use Rattle.std.specs.Prelude.{MatchBool}
 use mathlib.Core.Option.{some, none, some-injective, some-ne-none}
 use lib.ListN.{get_elem?}
@@ -19,13 +20,14 @@ use Rattle.pq_seats.specs.declared.views.Limits.{Limits}
 use Rattle.pq_seats.specs.declared.views.View.{View}
 use Rattle.pq_seats.specs.Views.{post_of, empty_post, known_of, with_post}
 use Rattle.pq_seats.specs.Letters.{owed_count, letter_count, without}
-use Rattle.pq_seats.specs.Batches.{Batch, marks_of, letters_from}
+use Rattle.pq_seats.specs.Batches.{Batch, marks_of, own_place, letters_of, letters_from}
 use Rattle.pq_seats.specs.Posts.{with_lock, without_lock, without_letter, placed_post}
 use Rattle.pq_seats.specs.Rules.{Table, Holds, Stands}
 use Rattle.pq_seats.specs.Allowed.{IsOwnChange, Waits, helps, Places, MayTake, MayFree, MayLeave, MayDraw}
 use Rattle.pq_seats.specs.Steps.{Took, Missed}
 use Rattle.pq_seats.specs.Seats.{Begins}
-use Rattle.pq_seats.proofs.Lists.{not_in, in_first, in_cases, less_has, sum_one, sum_kept, put_here, at_unmap, test_same, test_other}
+use Rattle.pq_seats.proofs.Lists.{not_in, in_first, in_cases, less_has, sum_one, put_here, same_at, at_unmap, test_same, test_other}
+use Rattle.pq_seats.proofs.Marks.{owed_count-append, owed_count-cons}
 use Rattle.pq_seats.proofs.Keeps.{settled, own_lane, one_number, number_low, untouched}
 use Rattle.pq_seats.proofs.Owning.{own_stays}
 use Rattle.pq_seats.proofs.Lengths.{few_marks}
@@ -33,9 +35,9 @@ use Rattle.pq_spot.specs.declared.views.SpotPart.{SpotPart}
 use Rattle.pq_spot.specs.Spot.{token, idle, part, lock_word, spot_word, words_needed, max_word, held, IsOffered, SpotTied, removal, batch_of, spot_rule, stored_post, offered_post}
 use Rattle.pq_spot.specs.Spot as spot
 use Rattle.pq_spot.specs.Passes.{IsTried, resting}
-use Rattle.pq_spot.specs.LawsHold.{P, same_letters, offer_on, offer_stays, frame, spot_laws}
+use Rattle.pq_spot.specs.LawsHold.{P, Quiet, same_count, same_letters, quiet_on, quiet_stays, others_offer, offer_on, offer_stays, frame, other_number, spot_laws}
 
-abbrev M : Type 0
+abbrev pub M : Type 0
 M = Me (Unit {0}) (View SpotPart)
 
 module _ (k : Limits) (s : Table SpotPart) (h : Holds spot_rule k s) where
@@ -57,7 +59,7 @@ module _ (k : Limits) (s : Table SpotPart) (h : Holds spot_rule k s) where
     t = h.tied
 
     -- no letter is there for a seat without an insert in flight
-    no_letter : v.post.number ≢ 0 → v.post.flight ≡ None → letter_count v.post.number s.words ps ≡ 0
+    pub no_letter : v.post.number ≢ 0 → v.post.flight ≡ None → letter_count v.post.number s.words ps ≡ 0
     no_letter ne quiet = let g = h.each id v at in let f = g.first ne in let l = lane v.post.number f.0 in
         (settled v.post.number v.front v.post.flight l (calls_of v.post.number h.history) _ _ (g.calls l (own_lane spot_rule k v f)) quiet).1
 
@@ -70,10 +72,10 @@ module _ (k : Limits) (s : Table SpotPart) (h : Holds spot_rule k s) where
           let other = (h.each j b.0 b.1).held lock_word (subst (λ (z : P). Contains z.locks lock_word) (sym b.2) has') in
           ne (one_number spot_rule k s h id j v b.0 at b.1 mine.2 (sym mine.1 ∙ other.1))
 
-      abbrev old : (v.post.own.counted ≡ (h.tied).counted) × (v.post.own.stored ≡ get_or s.words 18 0)
+      abbrev pub old : (v.post.own.counted ≡ (h.tied).counted) × (v.post.own.stored ≡ get_or s.words 18 0)
       old = t.mine id v.post there has
 
-      numbered : v.post.number ≢ 0
+      pub numbered : v.post.number ≢ 0
       numbered = ((h.each id v at).held lock_word has).2
 
       -- the lock is not free, whatever other word has changed
@@ -81,9 +83,9 @@ module _ (k : Limits) (s : Table SpotPart) (h : Holds spot_rule k s) where
       not_free i x ne e = numbered (sym ((h.each id v at).held lock_word has).1 ∙ (sym (get_or-set_other s.words i 17 x 0 (λ z. ne (sym z))) ∙ e))
 
       -- the holder's own part changes, and another word than the lock
-      holder_ties : (i x : ℕ) (p' : P) (c : ℕ) (m : List Entry) → i ≢ 17 → p'.own.counted ≡ c → p'.own.stored ≡ get_or (set s.words i x) 18 0 → m ≡ held c
-          → ((n : ℕ) → c ≡ suc (suc n) → IsOffered (suc n) (set s.words i x) (set ps id p')) → SpotTied k (set s.words i x) (set ps id p') m
-      holder_ties i x p' c m ne counted stored entries offers = record {
+      pub holder_ties : (i x : ℕ) (p' : P) (c : ℕ) (m : List Entry) → i ≢ 17 → p'.own.counted ≡ c → p'.own.stored ≡ get_or (set s.words i x) 18 0 → m ≡ held c
+          → ((n : ℕ) → c ≡ suc (suc n) → IsOffered (suc n) (set s.words i x) (set ps id p')) → Quiet s.words (set s.words i x) ps id v.post p' there → SpotTied k (set s.words i x) (set ps id p') m
+      holder_ties i x p' c m ne counted stored entries offers quiet = record {
         room = t.room;
         counted = c;
         entries = entries;
@@ -93,6 +95,7 @@ module _ (k : Limits) (s : Table SpotPart) (h : Holds spot_rule k s) where
             (λ e. (ap (λ (z : P). z.own.counted) (sym e.1) ∙ counted, ap (λ (z : P). z.own.stored) (sym e.1) ∙ stored))
             (λ r. absurd (alone j q r.0 r.1 has'))
             (at_set ps id j p' q to);
+        quiet = quiet;
       }
 
 -- an entry that is offered is not in the queue
@@ -105,11 +108,11 @@ few_counts zero words posts offers = omega arith
 few_counts (suc zero) words posts offers = omega arith
 few_counts (suc (suc n)) words posts offers = let high = (offers n refl).seat.1 in omega arith
 
-one_bit : (b : Bool) → cond b 1 0 ≤ 1
+pub one_bit : (b : Bool) → cond b 1 0 ≤ 1
 one_bit true = omega arith
 one_bit false = omega arith
 
-helps_one : (o n : ℕ) → helps n ((o, token) ∷ []) ≡ cond (eqb o n) 1 0
+pub helps_one : (o n : ℕ) → helps n ((o, token) ∷ []) ≡ cond (eqb o n) 1 0
 helps_one o n = by_test (eqb o n)
   where
     by_test : (b : Bool) → 0 + cond b 1 0 ≡ cond b 1 0
@@ -120,6 +123,30 @@ helps_one o n = by_test (eqb o n)
 pub without_one : (o x : ℕ) → without o ((o, x) ∷ []) ≡ []
 without_one o x = ap (λ (b : Bool). let l : List (ℕ × ℕ) = cond b [] ((o, x) ∷ []) in l) (eq-eqb o o refl)
 
+-- who offers the entry waits for its insert
+pub waiting : (s : Table SpotPart) (o : ℕ) → IsOffered (suc o) s.words (map post_of s.views) → Waits s (suc o) token
+waiting s o f = record { id = f.id; post = f.post; stands = f.stands; number = f.number; seated = λ z. omega arith; flight = f.flight; unwritten = f.unwritten }
+
+-- a seat owes a letter more, to one whose offer is out
+pub one_more_letter : (k : Limits) (s : Table SpotPart) (h : Holds spot_rule k s) (id : ℕ) (v : View SpotPart) (at : Stands spot_rule s id v) (o : ℕ) → IsOffered o s.words (map post_of s.views)
+    → (p' : P) (letter : ℕ) → p'.number ≡ v.post.number → p'.own.out ≡ v.post.own.out → p'.owed ≡ v.post.owed ++ (o, letter) ∷ []
+    → (ws : List ℕ) → ((m : ℕ) → IsSeat max_seats m → get_or ws m 0 ≡ get_or s.words m 0) → Quiet s.words ws (map post_of s.views) id v.post p' (at_map post_of s.views id v at)
+one_more_letter k s h id v at o f p' letter number out owed ws word =
+    let qs = map post_of s.views in let here = at_map post_of s.views id v at in let t = h.tied in
+    let kept : (n : ℕ) → IsSeat max_seats n → n ≢ o → letter_count n ws (set qs id p') ≡ letter_count n s.words qs = (λ n seat ne.
+    let a = owed_count-append n v.post.owed ((o, letter) ∷ []) in let b = owed_count-cons n (o, letter) [] in let c = test_other o n 1 0 (λ z. ne (sym z)) in let d = ap (owed_count n) owed in
+    same_count s.words ws qs id v.post p' here n (omega arith) (word n seat)) in
+    let out_of : (j : ℕ) (q : P) → get_elem? qs j ≡ some q → IsSeat max_seats q.number → q.own.out ≡ false → q.number ≢ o = (λ j q to seat loose e.
+    let w = at_unmap post_of s.views j q to in let g = at_unmap post_of s.views f.id f.post f.stands in let low = seat.0 in
+    let named : w.0.post.number ≡ q.number = ap (λ (y : P). y.number) w.2 in let same_as : g.0.post.number ≡ o = ap (λ (y : P). y.number) g.2 ∙ f.number in
+    let same : f.id ≡ j = one_number spot_rule k s h j f.id w.0 g.0 w.1 g.1 (λ z. omega arith) (named ∙ (e ∙ sym same_as)) in
+    let one : q ≡ f.post = same_at qs j q f.post to (subst (λ (y : ℕ). get_elem? qs y ≡ some f.post) same f.stands) in
+    let bad : false ≡ true = sym loose ∙ (ap (λ (y : P). y.own.out) one ∙ f.out) in absurd (cc)) in
+    quiet_on s.words ws qs id v.post p' here k (left h.history) t
+    (λ seat loose. let seat' : IsSeat max_seats v.post.number = subst (λ (n : ℕ). IsSeat max_seats n) number seat in let loose' : v.post.own.out ≡ false = sym out ∙ loose in
+    ap (λ (n : ℕ). letter_count n ws (set qs id p')) number ∙ (kept v.post.number seat' (out_of id v.post here seat' loose') ∙ t.quiet id v.post here seat' loose'))
+    (λ j q ne to seat loose. kept q.number seat (out_of j q to seat loose))
+
 module _ (k : Limits) where
   -- any seat may take the lock
   pub may_take : (id : ℕ) (v : View SpotPart) → v.post.number ≢ 0 → MayTake spot_rule k id v lock_word
@@ -128,17 +155,19 @@ module _ (k : Limits) where
       let number = ap (λ (z : P). z.number) same.post in
       let ne : w.post.number ≢ 0 = λ z. some_number (sym number ∙ z) in
       let c : ℕ = t.counted in
-      let p' : P = with_lock w.post lock_word (part c c) in
+      let own : SpotPart = part c c w.post.own.out in
+      let p' : P = with_lock w.post lock_word own in
       let ws : List ℕ = set s.words 17 w.post.number in
       let other : (j : ℕ) → j ≢ 17 → get_or ws j 0 ≡ get_or s.words j 0 = λ j d. get_or-set_other s.words 17 j w.post.number 0 d in
       let wide = h.width in (
-        part c c,
-        refl,
+        own,
+        (refl, refl),
         record {
           room = t.room;
           counted = c;
           entries = t.entries;
-          offers = λ n is. let o = t.offers n is in let high = o.seat.1 in offer_stays s.words ws qs id w.post p' here refl refl refl (suc n) (other (suc n) (λ z. omega arith)) o;
+          offers = λ n is. let o = t.offers n is in let high = o.seat.1 in offer_stays s.words ws qs id w.post p' here refl refl refl refl (suc n) (other (suc n) (λ z. omega arith)) o;
+          quiet = quiet_stays s.words ws qs id w.post p' here k (left h.history) t refl refl refl (λ n seat. let high = seat.1 in other n (λ z. omega arith));
           free = λ e. absurd (ne (sym (get_or-set_same s.words 17 w.post.number 0 (omega arith)) ∙ e));
           mine = λ j q to has. ⊎_elim
               (λ e. (ap (λ (z : P). z.own.counted) (sym e.1), ap (λ (z : P). z.own.stored) (sym e.1) ∙ (sym (t.free zero_word) ∙ sym (other 18 (λ z. omega arith)))))
@@ -153,13 +182,14 @@ module _ (k : Limits) where
       let t = h.tied in let qs = map post_of s.views in let here = at_map post_of s.views id v at in
       let has = subst (λ (l : List ℕ). Contains l lock_word) (sym locks) (in_first lock_word []) in
       let mine = t.mine id v.post here has in
-      let p' : P = without_lock v.post lock_word idle in
+      let p' : P = without_lock v.post lock_word (part 0 0 v.post.own.out) in
       let ws : List ℕ = set s.words 17 0 in
       let other : (j : ℕ) → j ≢ 17 → get_or ws j 0 ≡ get_or s.words j 0 = λ j d. get_or-set_other s.words 17 j 0 0 d in record {
         room = t.room;
         counted = t.counted;
         entries = t.entries;
-        offers = λ n is. let o = t.offers n is in let high = o.seat.1 in offer_stays s.words ws qs id v.post p' here refl refl refl (suc n) (other (suc n) (λ z. omega arith)) o;
+        offers = λ n is. let o = t.offers n is in let high = o.seat.1 in offer_stays s.words ws qs id v.post p' here refl refl refl refl (suc n) (other (suc n) (λ z. omega arith)) o;
+        quiet = quiet_stays s.words ws qs id v.post p' here k (left h.history) t refl refl refl (λ n seat. let high = seat.1 in other n (λ z. omega arith));
         free = λ e. other 18 (λ z. omega arith) ∙ (sym mine.1 ∙ (same ∙ mine.0));
         mine = λ j q to has'. ⊎_elim
             (λ e. absurd ((less_has lock_word v.post.locks lock_word (subst (λ (z : P). Contains z.locks lock_word) (sym e.1) has')).1 refl))
@@ -184,18 +214,20 @@ module _ (k : Limits) where
           tt,
           own_stays spot_rule k spot_laws s h id me.0 p' at (numbered k s h id me.0 at has) change 18 x (omega arith) refl
               (holder_ties k s h id me.0 at has 18 x p' t.counted (left h.history) (λ z. omega arith) mine.0 (sym (get_or-set_same s.words 18 x 0 (omega arith))) t.entries
-              (λ n is. let o = t.offers n is in let high = o.seat.1 in offer_stays s.words ws qs id me.0.post p' here refl refl refl (suc n) (get_or-set_other s.words 18 (suc n) x 0 (λ z. omega arith)) o)),
+              (λ n is. let o = t.offers n is in let high = o.seat.1 in offer_stays s.words ws qs id me.0.post p' here refl refl refl refl (suc n) (get_or-set_other s.words 18 (suc n) x 0 (λ z. omega arith)) o)
+              (quiet_stays s.words ws qs id me.0.post p' here k (left h.history) t refl refl refl (λ n seat. let high = seat.1 in get_or-set_other s.words 18 n x 0 (λ z. omega arith)))),
           (refl, omega arith),
         )
 
-    pub may_offer : (x : ℕ) → x ≡ suc me.0.post.number → me.0.post.own.counted ≡ 0 → me.0.post.flight ≡ None → length (known_of me.0).calls < call_limit - 1
+    pub may_offer : (x : ℕ) → x ≡ suc me.0.post.number → me.0.post.own.counted ≡ 0 → me.0.post.own.out ≡ false
+        → (me.0.post.flight ≡ Some token) ⊎ ((me.0.post.flight ≡ None) × (length (known_of me.0).calls < call_limit - 1))
         → Allows (Holds spot_rule k) slots id me 18 (λ _. x) (λ _. spot.offers (step slots 18 x 0 none) me x)
-    may_offer x is_x none_there quiet few s h sized at small =
+    may_offer x is_x none_there loose room s h sized at small =
         let t = h.tied in let qs = map post_of s.views in let here = at_map post_of s.views id me.0 at in
         let mine = old k s h id me.0 at has in let wide = h.width in let n : ℕ = me.0.post.number in
         let ne : n ≢ 0 = numbered k s h id me.0 at has in
         let p' : P = offered_post me.0.post in let ws : List ℕ = set s.words 18 x in
-        let change : IsOwnChange me.0 p' = record { number = refl; locks = refl; owed = refl; flight = inr (quiet, few) } in
+        let change : IsOwnChange me.0 p' = record { number = refl; locks = refl; owed = refl; flight = ⊎_elim (λ e. inl (sym e)) (λ r. inr r) room } in
         let low = number_low spot_rule k s h id me.0 at (pos n ne) in
         let high = low.1 in (
           with_post me.0 p',
@@ -211,8 +243,12 @@ module _ (k : Limits) where
                 stands = put_here qs id me.0.post p' here;
                 number = refl;
                 flight = refl;
-                unwritten = same_letters s.words ws qs id me.0.post p' here n refl (get_or-set_other s.words 18 n x 0 (λ z. omega arith)) ∙ no_letter k s h id me.0 at ne quiet;
-              }))),
+                out = refl;
+                unwritten = same_letters s.words ws qs id me.0.post p' here n refl (get_or-set_other s.words 18 n x 0 (λ z. omega arith)) ∙ t.quiet id me.0.post here low loose;
+              }))
+              (quiet_on s.words ws qs id me.0.post p' here k (left h.history) t
+              (λ seat bad. absurd (cc))
+              (λ j q d to seat loose_q. let high_q = seat.1 in same_letters s.words ws qs id me.0.post p' here q.number refl (get_or-set_other s.words 18 q.number x 0 (λ z. omega arith))))),
           refl,
         )
       where
@@ -223,38 +259,54 @@ module _ (k : Limits) where
   -- the draws
   module _ (id : ℕ) (v : View SpotPart) (has : Contains v.post.locks lock_word) where
     -- a draw that places the seat's own mark alone
-    places_one : (s : Table SpotPart) (h : Holds spot_rule k s) → Stands spot_rule s id v → (act : Act) (b : Batch) (c new : ℕ) → b.before ≡ [] → b.after ≡ [] → c ≤ 1
+    pub places_one : (s : Table SpotPart) (h : Holds spot_rule k s) → Stands spot_rule s id v → (act : Act) (b : Batch) (c new : ℕ) (out : Bool) → b.before ≡ [] → b.after ≡ []
+        → (c ≤ 1) ⊎ ((c ≡ v.post.own.counted) × (v.post.flight ≡ None) × (out ≡ v.post.own.out))
         → IsLegalFrom k.seats k.capacity (left h.history) (marks_of v.post.number act b) → left_from (left h.history) (marks_of v.post.number act b) ≡ held c
-        → letter_count v.post.number s.words (map post_of s.views) ≡ 0 → Places spot_rule k id v act b (part v.post.own.stored c) new s h
-    places_one s h at act b c new before after most legal leaves none_there = record {
+        → letter_count v.post.number s.words (map post_of s.views) ≡ 0 → Places spot_rule k id v act b (part v.post.own.stored c out) new s h
+    places_one s h at act b c new out before after most legal leaves none_there = record {
       legal = legal;
       apart = λ n. let x = one_bit (eqb v.post.number n) in let y = ap (helps n) before in let z = ap (helps n) after in omega arith;
       free = none_there;
       waiting = λ x has'. ⊎_elim (λ y. absurd (not_in x (subst (λ (l : List (ℕ × Entry)). Contains l x) before y))) (λ y. absurd (not_in x (subst (λ (l : List (ℕ × Entry)). Contains l x) after y))) has';
-      tied = holder_ties k s h id v at has 0 new (placed_post v.post b (part v.post.own.stored c) (length h.history)) c _ (λ z. omega arith) refl
-          ((old k s h id v at has).1 ∙ sym (get_or-set_other s.words 0 18 new 0 (λ z. omega arith))) leaves (λ n is. absurd (omega arith));
+      tied = let qs = map post_of s.views in let here = at_map post_of s.views id v at in let t = h.tied in
+          let p' : P = placed_post v.post b (part v.post.own.stored c out) (length h.history) in let ws : List ℕ = set s.words 0 new in
+          let letters : p'.owed ≡ v.post.owed = (λ i. v.post.owed ++ (letters_of (length h.history) (before i) ++ letters_of (own_place (length h.history) b + 1) (after i))) ∙ append-nil v.post.owed in
+          let word : (n : ℕ) → n ≢ 0 → get_or ws n 0 ≡ get_or s.words n 0 = λ n d. get_or-set_other s.words 0 n new 0 d in
+          holder_ties k s h id v at has 0 new p' c _ (λ z. omega arith) refl
+          ((old k s h id v at has).1 ∙ sym (get_or-set_other s.words 0 18 new 0 (λ z. omega arith))) leaves
+          (λ n is. ⊎_elim
+          (λ low. absurd (omega arith))
+          (λ r. let o = t.offers n (sym (old k s h id v at has).0 ∙ (sym r.0 ∙ is)) in
+          others_offer s.words ws qs id v.post p' here (suc n) o
+          (λ e. let same : v.post ≡ o.post = same_at qs id v.post o.post here (subst (λ (z : ℕ). get_elem? qs z ≡ some o.post) e o.stands) in
+          let bad : None ≡ Some token = sym r.1 ∙ (ap (λ (z : P). z.flight) same ∙ o.flight) in absurd (cc))
+          (same_letters s.words ws qs id v.post p' here (suc n) letters (word (suc n) (λ z. omega arith)) ∙ o.unwritten))
+          most)
+          (quiet_on s.words ws qs id v.post p' here k (left h.history) t
+          (λ seat loose. let low = seat.0 in same_letters s.words ws qs id v.post p' here v.post.number letters (word v.post.number (λ z. omega arith)) ∙ none_there)
+          (λ j q d to seat loose. let low = seat.0 in same_letters s.words ws qs id v.post p' here q.number letters (word q.number (λ z. omega arith))));
     }
 
-    entries_are : (s : Table SpotPart) (h : Holds spot_rule k s) → Stands spot_rule s id v → (c : ℕ) → v.post.own.counted ≡ c → left h.history ≡ held c
+    pub entries_are : (s : Table SpotPart) (h : Holds spot_rule k s) → Stands spot_rule s id v → (c : ℕ) → v.post.own.counted ≡ c → left h.history ≡ held c
     entries_are s h at c is = h.tied.entries ∙ ap held (sym (old k s h id v at has).0 ∙ is)
 
     module _ (is_quiet : v.post.flight ≡ None) where
       abbrev ready : ℕ → ℕ → Type 0
       ready c n = (length (marks_of v.post.number Remove (removal c)) ≡ n)
-          × ((s : Table SpotPart) (h : Holds spot_rule k s) → Stands spot_rule s id v → Places spot_rule k id v Remove (removal c) (part v.post.own.stored 0) (get_or s.words 0 0 + n) s h)
+          × ((s : Table SpotPart) (h : Holds spot_rule k s) → Stands spot_rule s id v → Places spot_rule k id v Remove (removal c) (part v.post.own.stored 0 v.post.own.out) (get_or s.words 0 0 + n) s h)
 
       pub may_find_none : v.post.own.counted ≡ 0 → MayDraw spot_rule k id v Remove 1
       may_find_none is = subst (λ (c : ℕ). ready c 1) (sym is) (
         refl,
         λ s h at. let e = entries_are s h at 0 is in
-            places_one s h at Remove (removal 0) 0 (get_or s.words 0 0 + 1) refl refl (omega arith) (e, tt) e (no_letter k s h id v at (numbered k s h id v at has) is_quiet),
+            places_one s h at Remove (removal 0) 0 (get_or s.words 0 0 + 1) v.post.own.out refl refl (inl (omega arith)) (e, tt) e (no_letter k s h id v at (numbered k s h id v at has) is_quiet),
       )
 
       pub may_take_it : v.post.own.counted ≡ 1 → MayDraw spot_rule k id v Remove 1
       may_take_it is = subst (λ (c : ℕ). ready c 1) (sym is) (
         refl,
         λ s h at. let e = entries_are s h at 1 is in
-            places_one s h at Remove (removal 1) 0 (get_or s.words 0 0 + 1) refl refl (omega arith)
+            places_one s h at Remove (removal 1) 0 (get_or s.words 0 0 + 1) v.post.own.out refl refl (inl (omega arith))
             (subst (λ (l : List Entry). IsLegalFrom k.seats k.capacity l (marks_of v.post.number Remove (removal 1))) (sym e) (refl, tt))
             (ap (λ (l : List Entry). left_from l (marks_of v.post.number Remove (removal 1))) e)
             (no_letter k s h id v at (numbered k s h id v at has) is_quiet),
@@ -279,20 +331,15 @@ module _ (k : Limits) where
                   (λ q. let y = test_other (suc o) m 1 0 q in let w = one_bit (eqb n m) in omega arith);
               free = no_letter k s h id v at (numbered k s h id v at has) is_quiet;
               waiting = λ x has'. ⊎_elim
-                  (λ y. ⊎_elim (λ q. subst (λ (z : ℕ × Entry). Waits s z.0 z.1) q (record {
-                    id = f.id;
-                    post = f.post;
-                    stands = f.stands;
-                    number = f.number;
-                    seated = λ z. omega arith;
-                    flight = f.flight;
-                    unwritten = f.unwritten;
-                  })) (λ q. absurd (not_in x q)) (in_cases (suc o, token) x [] y))
+                  (λ y. ⊎_elim (λ q. subst (λ (z : ℕ × Entry). Waits s z.0 z.1) q (waiting s o f)) (λ q. absurd (not_in x q)) (in_cases (suc o, token) x [] y))
                   (λ y. absurd (not_in x y))
                   has';
-              tied = holder_ties k s h id v at has 0 (get_or s.words 0 0 + 2) (placed_post v.post b (part v.post.own.stored 0) (length h.history)) 0 _ (λ z. omega arith) refl
+              tied = let p' : P = placed_post v.post b (part v.post.own.stored 0 v.post.own.out) (length h.history) in
+                  holder_ties k s h id v at has 0 (get_or s.words 0 0 + 2) p' 0 _ (λ z. omega arith) refl
                   (mine.1 ∙ sym (get_or-set_other s.words 0 18 (get_or s.words 0 0 + 2) 0 (λ z. omega arith)))
-                  (ap (λ (l : List Entry). left_from l (marks_of n Remove b)) e) (λ m q. absurd (omega arith));
+                  (ap (λ (l : List Entry). left_from l (marks_of n Remove b)) e) (λ m q. absurd (omega arith))
+                  (one_more_letter k s h id v at (suc o) f p' (length h.history + 1) refl refl refl (set s.words 0 (get_or s.words 0 0 + 2))
+                  (λ m seat. let low = seat.0 in get_or-set_other s.words 0 m (get_or s.words 0 0 + 2) 0 (λ z. omega arith)));
             },
       )
 
@@ -305,7 +352,7 @@ module _ (k : Limits) where
           let ne : n ≢ 0 = numbered k s h id v at has in
           let e : left h.history ≡ [] = entries_are s h at (suc n) is ∙ held_offer n ne in
           let b : Batch = batch_of v.post.own.counted (Insert token) in
-          places_one s h at (Insert token) b 1 (get_or s.words 0 0 + 1) refl refl (omega arith)
+          places_one s h at (Insert token) b 1 (get_or s.words 0 0 + 1) false refl refl (inl (omega arith))
           (subst (λ (l : List Entry). IsLegalFrom k.seats k.capacity l (marks_of n (Insert token) b)) (sym e) (let room = t.room in omega arith, tt))
           (ap (λ (l : List Entry). left_from l (marks_of n (Insert token) b)) e)
           (unwritten n s.words (map post_of s.views) t.counted ne (sym mine.0 ∙ is) t.offers),
@@ -323,17 +370,22 @@ module _ (k : Limits) where
       let seat = ((h.each id v at).owes (owner, letter) (subst (λ (l : List (ℕ × ℕ)). Contains l (owner, letter)) (sym owed) (in_first (owner, letter) []))).0 in
       let high = seat.1 in
       let p' : P = without_letter v.post owner in let ws : List ℕ = set s.words owner letter in
+      let kept : (n : ℕ) → n ≢ owner → letter_count n ws (set qs id p') ≡ letter_count n s.words qs = (λ n ne. let a = ap (λ (l : List (ℕ × ℕ)). owed_count n (without owner l)) owed in let b = ap (owed_count n) owed in
+      let c = count_one n owner letter in let d = test_other owner n 1 0 (λ z. ne (sym z)) in let e = ap (owed_count n) (without_one owner letter) in
+      same_count s.words ws qs id v.post p' here n (omega arith) (get_or-set_other s.words owner n letter 0 ne)) in
       let other : (j : ℕ) → j ≢ owner → get_or ws j 0 ≡ get_or s.words j 0 = λ j d. get_or-set_other s.words owner j letter 0 d in
       let owes_it : 1 ≤ letter_count owner s.words qs = (let a = sum_one (λ (q : P). owed_count owner q.owed) qs id v.post here in
       let b = ap (owed_count owner) owed in let c = count_one owner owner letter in let d = test_same owner owner 1 0 refl in omega arith) in
-      frame s.words ws qs id v.post p' here k (left h.history) t refl refl (other 17 (λ z. omega arith)) (other 18 (λ z. omega arith))
+      -- who has a letter owed has something out
+      let out_of : (j : ℕ) (q : P) → get_elem? qs j ≡ some q → IsSeat max_seats q.number → q.own.out ≡ false → q.number ≢ owner = (λ j q to seat' loose e.
+      let none_there = t.quiet j q to seat' loose in let same : letter_count q.number s.words qs ≡ letter_count owner s.words qs = ap (λ (y : ℕ). letter_count y s.words qs) e in absurd (omega arith)) in
+      frame s.words ws qs id v.post p' here k (left h.history) t refl refl refl (other 17 (λ z. omega arith)) (other 18 (λ z. omega arith))
       (λ m is. let o = t.offers m is in let u = o.unwritten in
       let ne : suc m ≢ owner = (λ z. let same : letter_count (suc m) s.words qs ≡ letter_count owner s.words qs = ap (λ (y : ℕ). letter_count y s.words qs) z in omega arith) in
-      let none_then : owed_count (suc m) p'.owed ≡ owed_count (suc m) v.post.owed = (let a = ap (λ (l : List (ℕ × ℕ)). owed_count (suc m) (without owner l)) owed in let b = ap (owed_count (suc m)) owed in
-      let c = count_one (suc m) owner letter in let d = test_other owner (suc m) 1 0 (λ z. ne (sym z)) in let e = ap (owed_count (suc m)) (without_one owner letter) in omega arith) in
-      let sums = sum_kept (λ (q : P). owed_count (suc m) q.owed) qs id v.post p' here none_then in
-      let word = other (suc m) ne in
-      offer_on s.words ws qs id v.post p' here refl refl (suc m) ((λ j. min (word j) 1 + sums j) ∙ u) o)
+      offer_on s.words ws qs id v.post p' here refl refl refl (suc m) (kept (suc m) ne ∙ u) o)
+      (quiet_on s.words ws qs id v.post p' here k (left h.history) t
+      (λ seat' loose. kept v.post.number (out_of id v.post here seat' loose) ∙ t.quiet id v.post here seat' loose)
+      (λ j q ne to seat' loose. kept q.number (out_of j q to seat' loose)))
     where
       count_one : (n o x : ℕ) → owed_count n ((o, x) ∷ []) ≡ cond (eqb o n) 1 0
       count_one n o x = by_test (eqb o n)
@@ -349,7 +401,7 @@ letters_are (suc o) first low = refl
 
 -- What a try of the lock tells
 pub tried_is : (n : ℕ) (v w : View SpotPart) (b : Bool) → v.post ≡ resting n → MatchBool b (Took spot_rule v w lock_word) (Missed spot_rule v w) → IsTried n b v w
-tried_is n v w true rests t = (t.own.counted, record { post = t.post ∙ (λ j. with_lock (rests j) lock_word (part (t.taken j) t.own.counted)); lanes = t.lanes; front = t.front })
+tried_is n v w true rests t = (t.own.counted, record { post = t.post ∙ (λ j. with_lock (rests j) lock_word (part (t.taken.0 j) t.own.counted ((t.taken.1 ∙ ap (λ (p : P). p.own.out) rests) j))); lanes = t.lanes; front = t.front })
 tried_is n v w false rests m = record { post = m.same.post ∙ rests; lanes = m.same.lanes; front = m.same.front }
 
 -- The words of a new table
@@ -368,6 +420,7 @@ spot_begins k words seat room long all = record {
     offers = λ n is. absurd (omega arith);
     free = λ e. all 18;
     mine = λ j p at has. absurd (not_in lock_word (subst (λ (q : P). Contains q.locks lock_word) (sym (only j p at)) has));
+    quiet = λ j p at seated loose. let low = seated.0 in let is : 0 ≡ p.number = ap (λ (q : P). q.number) (only j p at) in absurd (omega arith);
   };
 }
   where

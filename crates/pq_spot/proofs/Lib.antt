@@ -1,3 +1,4 @@
 -- How the calls of the spot are proved.
 pub mod Allows
+pub mod Steps
 pub mod Ending

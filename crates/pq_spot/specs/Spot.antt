@@ -1,6 +1,7 @@
 -- The rule of a queue that takes one entry at a time, always the same. Behind the letters it has a lock, and the spot:
 -- 0 where nothing is there, 1 where the entry is in the queue, and n + 1 where the seat n offers it.
-use Rattle.std.specs.Prelude.{◌≡◌, ◌≤◌, ℕ, zero, suc, ◌==◌, List, [], ◌∷◌, Some, Contains, slice_index}
+use Rattle.std.specs.Prelude.{◌≡◌, ◌<◌, ◌≤◌, ℕ, zero, suc, ◌-◌, ◌^◌, ◌==◌, Bool, true, false, List, [], ◌∷◌}
+use Rattle.std.specs.Prelude.{Option, Some, None, Contains, slice_index}
 use mathlib.Core.Option.{some}
 use lib.ListN.{get_elem?}
 use Rattle.atomic_table.specs.Table.{Me, Step}
@@ -14,9 +15,11 @@ use Rattle.pq_model.specs.Limits.{max_seats}
 use Rattle.pq_seats.specs.declared.views.Limits.{Limits}
 use Rattle.pq_seats.specs.declared.views.Post.{Post}
 use Rattle.pq_seats.specs.declared.views.View.{View}
-use Rattle.pq_seats.specs.Views.{with_post}
+use Rattle.pq_api.specs.Answers.{MakesCall}
+use Rattle.pq_seats.specs.Views.{known_of, with_post, with_seen}
 use Rattle.pq_seats.specs.Letters.{letter_count}
 use Rattle.pq_seats.specs.Batches.{Batch}
+use Rattle.pq_seats.specs.Posts.{helped_post, owing_back, placed_view}
 use Rattle.pq_seats.specs.Laws.{history_limit}
 use Rattle.pq_seats.specs.Rules.{Rule}
 use Rattle.pq_spot.specs.declared.views.SpotPart.{SpotPart}
@@ -39,11 +42,11 @@ words_needed = 19
 abbrev pub max_word : ℕ
 max_word = suc max_seats
 
-abbrev pub part : ℕ → ℕ → SpotPart
-part stored counted = record { stored = stored; counted = counted }
+abbrev pub part : ℕ → ℕ → Bool → SpotPart
+part stored counted out = record { stored = stored; counted = counted; out = out }
 
 abbrev pub idle : SpotPart
-idle = part 0 0
+idle = part 0 0 false
 
 -- the entries in the queue, by what the spot counts as
 abbrev pub held : ℕ → List Entry
@@ -59,6 +62,7 @@ pub record IsOffered (n : ℕ) (words : List ℕ) (posts : List (Post SpotPart))
   pub stands : get_elem? posts id ≡ some post
   pub number : post.number ≡ n
   pub flight : post.flight ≡ Some token
+  pub out : post.own.out ≡ true
   pub unwritten : letter_count n words posts ≡ 0
 
 -- What holds between any two steps
@@ -72,6 +76,9 @@ pub record SpotTied (k : Limits) (words : List ℕ) (posts : List (Post SpotPart
   pub free : slice_index words lock_word ≡ 0 → slice_index words spot_word ≡ counted
   pub mine : (j : ℕ) (p : Post SpotPart) → get_elem? posts j ≡ some p → Contains p.locks lock_word
       → (p.own.counted ≡ counted) × (p.own.stored ≡ slice_index words spot_word)
+  -- a seat that has offered nothing since it last took a letter has none
+  pub quiet : (j : ℕ) (p : Post SpotPart) → get_elem? posts j ≡ some p → IsSeat max_seats p.number → p.own.out ≡ false
+      → letter_count p.number words posts ≡ 0
 
 -- A removal takes the entry. Where a seat offers it, that seat's insert is placed before
 abbrev pub removal : ℕ → Batch
@@ -90,6 +97,12 @@ after_draw (Insert e) = 1
 after_draw Remove = 0
 after_draw (RemoveBelow limit) = 0
 
+-- who draws its own insert has nothing out any more
+abbrev pub out_after : Act → Bool → Bool
+out_after (Insert e) out = false
+out_after Remove out = out
+out_after (RemoveBelow limit) out = out
+
 abbrev pub spot_rule : Rule SpotPart
 spot_rule = record {
   idle = idle;
@@ -97,21 +110,51 @@ spot_rule = record {
   width = λ k. words_needed;
   locks = λ k i. i == lock_word;
   ties = SpotTied;
-  taken = λ k v i w. w.stored ≡ w.counted;
-  freed = λ k v i. idle;
+  taken = λ k v i w. (w.stored ≡ w.counted) × (w.out ≡ v.out);
+  freed = λ k v i. part 0 0 v.out;
   batch = λ k p act n. batch_of p.own.counted act;
-  drawn = λ k p act n. part p.own.stored (after_draw act);
-  told = λ v. v;
+  drawn = λ k p act n. part p.own.stored (after_draw act) (out_after act p.own.out);
+  told = λ v. part v.stored v.counted false;
   knows = λ v letter. Unit {0};
   length_of = λ word. word;
 }
 
 -- the post of a seat that has stored a word at the spot, and of one that offers the entry there
 abbrev pub stored_post : Post SpotPart → ℕ → Post SpotPart
-stored_post p x = record p { own = part x p.own.counted }
+stored_post p x = record p { own = part x p.own.counted p.own.out }
 
 abbrev pub offered_post : Post SpotPart → Post SpotPart
-offered_post p = record p { flight = Some token; own = part (suc p.number) (suc p.number) }
+offered_post p = record p { flight = Some token; own = part (suc p.number) (suc p.number) true }
+
+-- Where the seat owner offers the entry: of one that has placed that insert, and of one that has sent it back
+abbrev pub accepted_post : Post SpotPart → ℕ → ℕ → Post SpotPart
+accepted_post p owner place = helped_post p ((owner, token) ∷ []) (part p.own.stored 1 p.own.out) place
+
+abbrev pub refused_post : Post SpotPart → ℕ → Post SpotPart
+refused_post p owner = owing_back p owner (part 0 0 p.own.out)
+
+-- A removal that looks for no offer takes what is in the queue
+abbrev pub plain_removal : ℕ → Batch
+plain_removal zero = removal 0
+plain_removal (suc zero) = removal 1
+plain_removal (suc (suc n)) = removal 0
+
+abbrev pub after_removal : ℕ → ℕ
+after_removal zero = 0
+after_removal (suc zero) = 0
+after_removal (suc (suc n)) = suc (suc n)
+
+abbrev pub removed_view : View SpotPart → ℕ → View SpotPart
+removed_view v place = placed_view v Remove (plain_removal v.post.own.counted)
+    (part v.post.own.stored (after_removal v.post.own.counted) v.post.own.out) place
+
+-- the front of a seat that has seen a history of this length, where it has no insert in flight
+abbrev pub front_after : Option Entry → ℕ → ℕ → ℕ
+front_after None front long = long
+front_after (Some e) front long = front
+
+abbrev pub seen_view : View SpotPart → ℕ → View SpotPart
+seen_view v long = with_seen v (front_after v.post.flight v.front long)
 
 -- Of a step at the spot: the view that was, what was found, and the view that is
 module _ (st : Step (Unit {0})) (m : Me (Unit {0}) (View SpotPart)) (found : ℕ)
@@ -121,6 +164,20 @@ module _ (st : Step (Unit {0})) (m : Me (Unit {0}) (View SpotPart)) (found : ℕ
 
   abbrev pub offers : Type 0
   offers = m' ≡ (with_post m.0 (offered_post m.0.post), m.1)
+
+  -- the word was the length of the history, and is one more where a mark was placed
+  abbrev pub sees : Type 0
+  sees = (m' ≡ (seen_view m.0 found, m.1)) × (m.0.front ≤ found) × (found < 2 ^ 30)
+
+  abbrev pub accepts : Type 0
+  accepts = (m' ≡ (with_post m.0 (accepted_post m.0.post (m.0.post.own.counted - 1) found), m.1)) × (found < 2 ^ 30)
+
+  abbrev pub removes : Type 0
+  removes = (m' ≡ (removed_view m.0 found, m.1)) × (found < 2 ^ 30)
+      × MakesCall (known_of m.0) found Remove (plain_removal m.0.post.own.counted).reply (known_of m'.0)
+
+  abbrev pub refuses : Type 0
+  refuses = m' ≡ (with_post m.0 (refused_post m.0.post (m.0.post.own.counted - 1)), m.1)
 
   abbrev pub puts : Type 0
   puts = (m' ≡ (with_post m.0 (stored_post m.0.post st.first), m.1)) × (m.0.front ≤ history_limit)

@@ -1,6 +1,6 @@
 //! The calls of the spot.
 ghost use Rattle.std.specs.Prelude.{◌≡◌, ◌≢◌, ℕ, suc, ◌+◌, ◌-◌, ◌<◌, ◌≤◌, Contains, [], ◌∷◌, length};
-ghost use Rattle.std.specs.Prelude.{IfOk, IfSome, MatchBool, None};
+ghost use Rattle.std.specs.Prelude.{IfOk, MatchBool, Some, None, false, ◌⊎◌};
 ghost use Rattle.std.specs.Mem.Slots.{slots_items};
 ghost use Rattle.pq_model.specs.Limits.{max_seats};
 ghost use Rattle.pq_model.specs.History.{IsSeat};
@@ -17,11 +17,11 @@ ghost use Rattle.pq_seats.specs.Passes.{limits_of, view_of, known, Belongs, IsSa
 ghost use Rattle.pq_spot.specs.Spot.{token, lock_word, words_needed, max_word, part, spot_rule};
 ghost use Rattle.pq_spot.specs.Spot.{stored_post, offered_post};
 ghost use Rattle.pq_spot.specs.Passes.{Goes, IsStill, IsTried, resting, offering, locking, freed_post};
-ghost use Rattle.pq_spot.specs.Passes.{offered_by, settled_by, taken_reply};
-ghost use Rattle.pq_spot.specs.Passes.{Rests, Offers, remains};
+ghost use Rattle.pq_spot.specs.Passes.{offered_by, settled_by, IsSettled, taken_reply};
+ghost use Rattle.pq_spot.specs.Passes.{Rests, Offers, IsRefused, remains};
 
 use crate::plays::{Look, Offer, Put};
-use crate::{SpotPass, SpotTable};
+use crate::{Settled, SpotPass, SpotTable};
 use pq_io::NoMemory;
 use pq_model::Act;
 use pq_seats::Shared;
@@ -29,15 +29,15 @@ use pq_words::{Entry, Letter};
 use std::alloc::Global;
 use std::sync::Wait;
 
-const LOCK: u32 = 17;
+pub(crate) const LOCK: u32 = 17;
 
-const SPOT: usize = 18;
+pub(crate) const SPOT: usize = 18;
 
 // How many words the table has.
 const WORDS: usize = 19;
 
 // What the spot has where the entry is in the queue.
-const THERE: u64 = 1;
+pub(crate) const THERE: u64 = 1;
 
 /// The one entry of the queue.
 pub fn token() -> Entry
@@ -68,7 +68,7 @@ pub fn open(
 }
 
 // Takes the lock, and gives what the spot has.
-fn hold<W: Wait>(rt: &W, table: &SpotTable, pass: &mut SpotPass) -> u64
+pub(crate) fn hold<W: Wait>(rt: &W, table: &SpotTable, pass: &mut SpotPass) -> u64
     requires own { Belongs table.now pass.old }
     requires wide { words_needed ≤ table.now.words }
     requires unlocked { (view_of pass.old).post.locks ≡ [] }
@@ -82,7 +82,7 @@ fn hold<W: Wait>(rt: &W, table: &SpotTable, pass: &mut SpotPass) -> u64
 }
 
 // What the spot has, by the holder of the lock.
-fn look(table: &SpotTable, pass: &mut SpotPass) -> u64
+pub(crate) fn look(table: &SpotTable, pass: &mut SpotPass) -> u64
     requires own { Belongs table.now pass.old }
     requires wide { words_needed ≤ table.now.words }
     requires held { Contains (view_of pass.old).post.locks lock_word }
@@ -96,7 +96,7 @@ fn look(table: &SpotTable, pass: &mut SpotPass) -> u64
 }
 
 // Stores at the spot, by the holder of the lock.
-fn put(table: &SpotTable, pass: &mut SpotPass, word: u64)
+pub(crate) fn put(table: &SpotTable, pass: &mut SpotPass, word: u64)
     requires own { Belongs table.now pass.old }
     requires wide { words_needed ≤ table.now.words }
     requires held { Contains (view_of pass.old).post.locks lock_word }
@@ -112,8 +112,10 @@ fn put(table: &SpotTable, pass: &mut SpotPass, word: u64)
 fn put_offer(table: &SpotTable, pass: &mut SpotPass)
     requires own { Belongs table.now pass.old }
     requires wide { words_needed ≤ table.now.words }
-    requires post { (view_of pass.old).post ≡ locking (resting pass.old.number) 0 0 }
-    requires few { length (known pass.old).calls < call_limit - 1 }
+    requires held { Contains (view_of pass.old).post.locks lock_word }
+    requires free { ((view_of pass.old).post.own.counted ≡ 0) × ((view_of pass.old).post.own.out ≡ false) }
+    requires room { ((view_of pass.old).post.flight ≡ Some token) ⊎
+        (((view_of pass.old).post.flight ≡ None) × (length (known pass.old).calls < call_limit - 1)) }
     ensures own { Belongs table.now pass.new }
     ensures same { IsSamePass pass.old pass.new }
     ensures view { view_of pass.new ≡ with_post (view_of pass.old) (offered_post (view_of pass.old).post) }
@@ -126,7 +128,7 @@ fn put_offer(table: &SpotTable, pass: &mut SpotPass)
 }
 
 // Frees the lock, where the spot is stored as it counts.
-fn free(table: &SpotTable, pass: &mut SpotPass)
+pub(crate) fn free(table: &SpotTable, pass: &mut SpotPass)
     requires own { Belongs table.now pass.old }
     requires wide { words_needed ≤ table.now.words }
     requires locks { (view_of pass.old).post.locks ≡ lock_word ∷ [] }
@@ -162,14 +164,38 @@ pub fn unhold(table: &SpotTable, pass: &mut SpotPass)
     free(table, pass);
 }
 
-/// Offers the entry, if the spot is free. The insert is in flight then: a removal may place it. The answer tells
-/// whether it is.
+/// Offers the entry, if the spot is free. The insert is in flight then: another seat may place it, or send it back. The
+/// answer tells whether it is.
 pub fn offer<W: Wait>(rt: &W, table: &SpotTable, pass: &mut SpotPass) -> bool
     requires rests { Rests table.now pass.old }
     requires few { length (known pass.old).calls < call_limit - 1 }
     ensures own { Belongs table.now pass.new }
     ensures same { IsSamePass pass.old pass.new }
-    ensures offered { Goes (view_of pass.old) (view_of pass.new) (offered_by pass.old.number result) }
+    ensures offered { Goes (view_of pass.old) (view_of pass.new) (offered_by (view_of pass.old).post result) }
+{
+    offer_free(rt, table, pass)
+}
+
+/// Offers the entry again whose offer was sent back, if the spot is free. The answer tells whether it is.
+pub fn offer_again<W: Wait>(rt: &W, table: &SpotTable, pass: &mut SpotPass) -> bool
+    requires refused { IsRefused table.now pass.old }
+    ensures own { Belongs table.now pass.new }
+    ensures same { IsSamePass pass.old pass.new }
+    ensures offered { Goes (view_of pass.old) (view_of pass.new) (offered_by (view_of pass.old).post result) }
+{
+    offer_free(rt, table, pass)
+}
+
+// Offers the entry of a seat that has no other thing in hand, if the spot is free.
+fn offer_free<W: Wait>(rt: &W, table: &SpotTable, pass: &mut SpotPass) -> bool
+    requires own { Belongs table.now pass.old }
+    requires wide { words_needed ≤ table.now.words }
+    requires bare { let p = (view_of pass.old).post in p ≡ record (resting pass.old.number) { flight = p.flight } }
+    requires room { ((view_of pass.old).post.flight ≡ Some token) ⊎
+        (((view_of pass.old).post.flight ≡ None) × (length (known pass.old).calls < call_limit - 1)) }
+    ensures own { Belongs table.now pass.new }
+    ensures same { IsSamePass pass.old pass.new }
+    ensures offered { Goes (view_of pass.old) (view_of pass.new) (offered_by (view_of pass.old).post result) }
 {
     let word = hold(rt, table, pass);
     if word != 0 {
@@ -181,26 +207,25 @@ pub fn offer<W: Wait>(rt: &W, table: &SpotTable, pass: &mut SpotPass) -> bool
     true
 }
 
-/// Places the insert that the pass has in flight, if its offer still stands, or else takes the letter of the removal
-/// that placed it. `None` where there is neither: the insert is in flight still.
-pub fn settle<W: Wait>(rt: &W, table: &SpotTable, pass: &mut SpotPass) -> Option<u32>
+/// Places the insert that the pass has in flight, if its offer still stands, or else takes its letter, which tells
+/// where another seat has placed it, or that it was sent back.
+pub fn settle<W: Wait>(rt: &W, table: &SpotTable, pass: &mut SpotPass) -> Settled
     requires offers { Offers table.now pass.old }
     requires few { length (known pass.old).calls < call_limit - 1 }
     ensures own { Belongs table.now pass.new }
     ensures same { IsSamePass pass.old pass.new }
     ensures post { (view_of pass.new).post ≡ settled_by pass.old.number result }
-    ensures call { IfSome result (λ place.
-        MakesCall (known pass.old) place (acts.Insert token) replies.Done (known pass.new)) }
-    ensures none { result ≡ None → IsStill (view_of pass.old) (view_of pass.new) }
+    ensures call { IsSettled result (known pass.old) (known pass.new) }
 {
     let word = hold(rt, table, pass);
     if word == u64::from(pass.number) + 1 {
-        return Some(place_own(table, pass));
+        return Settled::Placed(place_own(table, pass));
     }
     free(table, pass);
     match table.take_letter(pass) {
-        Letter::At(place) => Some(place),
-        _ => None,
+        Letter::At(place) => Settled::Placed(place),
+        Letter::Nothing => Settled::Waits,
+        Letter::Back => Settled::Back,
     }
 }
 

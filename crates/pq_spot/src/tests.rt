@@ -4,7 +4,10 @@ ghost use Rattle.pq_api.specs.Limits.{call_limit};
 ghost use Rattle.pq_seats.specs.Passes.{known};
 ghost use Rattle.pq_spot.specs.Passes.{Rests};
 
-use crate::{SpotPass, SpotTable, offer, open, remove, settle, shut, try_hold, unhold};
+use crate::{
+    Settled, SpotPass, SpotTable, accept, glance, grab, offer, offer_again, open, remove,
+    send_back, settle, shut, try_hold, unhold,
+};
 use pq_words::Letter;
 use std::sync::Wait;
 use std::test::Fail;
@@ -24,8 +27,49 @@ fn letters_tell_places(rt: HostRuntime) -> Result<(), Fail> {
     assert!(rt; !offer(&rt, &table, &mut second));
     assert_eq!(rt; remove(&rt, &table, &mut third), (true, 1));
     assert_eq!(rt; table.take_letter(&mut third), Letter::Nothing);
-    assert_eq!(rt; settle(&rt, &table, &mut first), Some(0));
+    assert_eq!(rt; settle(&rt, &table, &mut first), Settled::Placed(0));
     assert_eq!(rt; table.length(&mut second), 2);
+    Ok(())
+}
+
+// An insert is placed by another seat that makes no call, and its owner is told where. A glance tells how many calls were
+// made, also to a seat whose insert is in flight.
+#[test]
+fn others_place_an_insert(rt: HostRuntime) -> Result<(), Fail> {
+    let (table, mut passes) = open(rt.alloc(), 1, 2)?;
+    let mut first = passes.remove(0);
+    let mut second = passes.remove(0);
+    assert!(rt; !accept(&rt, &table, &mut second));
+    assert_eq!(rt; grab(&rt, &table, &mut second), (false, 0));
+    assert!(rt; offer(&rt, &table, &mut first));
+    assert_eq!(rt; grab(&rt, &table, &mut second), (false, 1));
+    assert!(rt; accept(&rt, &table, &mut second));
+    assert_eq!(rt; glance(&table, &mut first), 3);
+    assert!(rt; !accept(&rt, &table, &mut second));
+    assert_eq!(rt; settle(&rt, &table, &mut first), Settled::Placed(2));
+    assert_eq!(rt; grab(&rt, &table, &mut second), (true, 3));
+    assert_eq!(rt; glance(&table, &mut second), 4);
+    Ok(())
+}
+
+// An offer is sent back: nothing is placed, and its owner offers the entry again.
+#[test]
+fn offers_are_sent_back(rt: HostRuntime) -> Result<(), Fail> {
+    let (table, mut passes) = open(rt.alloc(), 1, 2)?;
+    let mut first = passes.remove(0);
+    let mut second = passes.remove(0);
+    assert!(rt; !send_back(&rt, &table, &mut second));
+    assert!(rt; offer(&rt, &table, &mut first));
+    assert!(rt; send_back(&rt, &table, &mut second));
+    assert!(rt; !send_back(&rt, &table, &mut second));
+    assert_eq!(rt; remove(&rt, &table, &mut second), (false, 0));
+    let settled = settle(&rt, &table, &mut first);
+    assert_eq!(rt; settled, Settled::Back);
+    if let Settled::Back = settled {
+        assert!(rt; offer_again(&rt, &table, &mut first));
+        assert_eq!(rt; remove(&rt, &table, &mut second), (true, 2));
+        assert_eq!(rt; settle(&rt, &table, &mut first), Settled::Placed(1));
+    }
     Ok(())
 }
 
@@ -84,7 +128,9 @@ fn one_turn<W: Wait>(rt: &W, table: &SpotTable, pass: &mut SpotPass, made: Made)
 {
     let mut made = made;
     if offer(rt, table, pass) {
-        settle(rt, table, pass)?;
+        let Settled::Placed(_) = settle(rt, table, pass) else {
+            return None;
+        };
         made.calls = made.calls.saturating_add(1);
         made.inserts = made.inserts.saturating_add(1);
     }
