@@ -77,5 +77,6 @@ bench_pool_laws = record {
         unowed = unowed_still ps id v.post p' there refl b.unowed;
         unlinked = λ c. B.others (115 + 69 * c) (next_not_swept t.chunks.count k.seats few c) ∙ b.unlinked c;
       };
+  rests = λ o rest. rest;
   taken = λ k o o' e. e;
 }

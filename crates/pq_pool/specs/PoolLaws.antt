@@ -56,6 +56,8 @@ module _ {O : Type 0} (R : Rule O) (P : PoolPart O) where
         → Contains v.post.locks builder_word → (i x : ℕ) (w : PoolView)
         → Builds (facts k s h).chunks.count k.seats v.post.number s.words (slice_set s.words i x) (pool_view P v) w
         → TiedAfter R k s i x id (with_pool_post P v.post w) (left h.history)
+    -- a pinned seat does not rest
+    pub rests : (o : O) → R.rests o → (P.view_of o).pinned ≡ false
     -- who takes the builder's word finds the words as they count
     pub taken : (k : Limits) (o o' : O) → R.taken k o builder_word o' → NamesWords k (P.view_of o')
 

@@ -1,10 +1,11 @@
 //! The pool by itself: a row worked by hand, and two seats in threads of their own.
-ghost use Rattle.std.specs.Prelude.{◌≡◌, ◌≤◌, true, Contains, IfSome};
-ghost use Rattle.pq_seats.specs.Passes.{view_of, Belongs};
+ghost use Rattle.std.specs.Prelude.{◌≡◌, ◌≤◌, true, Contains, IfSome, None};
+ghost use Rattle.pq_seats.specs.Passes.{limits_of, view_of, Belongs};
+ghost use Rattle.pq_seats.specs.Rules.{IsBare, IsAtRest};
 ghost use Rattle.pq_pool.specs.Layout.{builder_word, first_chunk};
 ghost use Rattle.pq_pool.specs.States.{IsLive};
 ghost use Rattle.pq_pool.specs.Passes.{pool_of, HoldsBuilder, AgreesAt};
-ghost use Rattle.pq_pool.specs.Bench.{bench_pool, IsLoose};
+ghost use Rattle.pq_pool.specs.Bench.{bench_rule, bench_pool, IsLoose};
 
 use pq_pool::{Bench, BenchPass, pin, still_stands, take};
 use pq_seats::Shared;
@@ -392,4 +393,50 @@ fn no_chunk_is_given_while_it_is_read(rt: HostRuntime) {
     let (outlasted, _) = read;
     assert_eq!(rt; clashes, 0);
     assert!(rt; 0 < outlasted);
+}
+
+// Pins the seat, looks under the pin, and ends it.
+fn pins_once(shared: &Shared<Bench>, pass: &mut BenchPass)
+    requires wide { first_chunk ≤ shared.now.words }
+    requires own { Belongs shared.now pass.old }
+    requires bare { IsBare (view_of pass.old).post }
+    ensures own { Belongs shared.now pass.new }
+    ensures lanes { pass.new.lanes ≡ pass.old.lanes }
+    ensures rests { IsAtRest bench_rule (view_of pass.new).post }
+{
+    pin(shared, pass);
+    still_stands(shared, pass);
+    Bench::unpin(shared, pass);
+}
+
+// Closes the table, and gives the length of the history and the pin words of the first three seats.
+fn last_words(shared: Shared<Bench>, pass: BenchPass) -> [u64; 4]
+    requires wide { first_chunk ≤ (limits_of shared).words }
+    requires own { Belongs shared pass }
+    requires all { shared.seats ≤ pass.lanes }
+    requires rests { IsAtRest bench_rule (view_of pass).post }
+{
+    let closed = shared.close(pass);
+    let words = [closed.word(0), closed.word(18), closed.word(19), closed.word(20)];
+    closed.free();
+    words
+}
+
+// Passes that were pinned are joined: one whose pin has ended, and one that is pinned still, whose pin the join ends. The
+// last is pinned once more, and closes the table. No pin is set then.
+#[test]
+fn passes_that_pinned_are_joined_and_closed(rt: HostRuntime) {
+    let opened = Bench::open(rt.alloc(), 2, 7, 3);
+    let (shared, mut passes) = opened.expect(&rt, "there is memory");
+    let mut first = passes.remove(0);
+    let mut second = passes.remove(0);
+    let mut third = passes.remove(0);
+    pins_once(&shared, &mut second);
+    shared.join(&mut first, second);
+    pin(&shared, &mut third);
+    Bench::join(&shared, &mut first, third);
+    pins_once(&shared, &mut first);
+    assert_eq!(rt; first.lanes, 3);
+    assert!(rt; shared.seats <= first.lanes);
+    assert_eq!(rt; last_words(shared, first), [0, 0, 0, 0]);
 }
