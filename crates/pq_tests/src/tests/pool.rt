@@ -417,7 +417,12 @@ fn last_words(shared: Shared<Bench>, pass: BenchPass) -> [u64; 4]
     requires rests { IsAtRest bench_rule (view_of pass).post }
 {
     let closed = shared.close(pass);
-    let words = [closed.word(0), closed.word(18), closed.word(19), closed.word(20)];
+    let words = [
+        closed.word(0),
+        closed.word(18),
+        closed.word(19),
+        closed.word(20),
+    ];
     closed.free();
     words
 }

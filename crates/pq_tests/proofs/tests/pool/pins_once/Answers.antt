@@ -1,4 +1,4 @@
-use Rattle.pq_pool.proofs.BenchRests.{no_lock, still_bare}
+use Rattle.pq_pool.proofs.BenchRests.{no_lock}
 use Rattle.pq_tests.proofs.tests.pool.pins_once.Goals as goal
 
 pub pin-requires-clause-no_lock : goal.pin-requires-clause-no_lock
