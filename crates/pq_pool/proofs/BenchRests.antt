@@ -1,8 +1,6 @@
 -- When a pass of the bench is at rest.
 use Rattle.std.proofs.Common.{◌≡◌, ℕ, refl, sym, ap, ◌∙◌, subst}
 use Rattle.std.specs.Prelude.{Contains}
-use Rattle.pq_model.specs.declared.passes.Known.{Known}
-use Rattle.pq_model.specs.Passes.{joined_with}
 use Rattle.pq_seats.specs.declared.views.Limits.{Limits}
 use Rattle.pq_seats.specs.declared.views.Post.{Post}
 use Rattle.pq_seats.specs.declared.views.View.{View}

@@ -1,12 +1,11 @@
 -- A step on a word of the queue's own, after which the seat owes another the letter Back, keeps the rule.
-use Rattle.std.proofs.Common.{◌≡◌, ◌≢◌, ℕ, ◌+◌, ◌<◌, ◌≤◌, true, false, cond, eqb, List, [], ◌∷◌, map, length, get_or, set, min, sym, refl, ap, ◌∙◌, subst, inl, inr, ⊎_elim, arith, length-set, get_or-set_other, Contains, Option, IsSome}
+use Rattle.std.proofs.Common.{◌≡◌, ◌≢◌, ℕ, ◌+◌, ◌<◌, true, false, cond, eqb, List, [], ◌∷◌, map, length, get_or, set, min, sym, refl, ap, ◌∙◌, subst, inl, inr, ⊎_elim, arith, length-set, get_or-set_other, Contains, Option, IsSome}
 use Rattle.std.proofs.lemmas.List.Elements.{Contains-append_cases}
 use lib.Seq.{map-set}
 use native.Mathlib.Decide.{ℕ_discrete}
 use mathlib.Core.Logic.{dite}
 use Rattle.atomic_table.proofs.Lists.{at_set, at_map}
 use Rattle.pq_words.specs.declared.entries.Entry.{Entry}
-use Rattle.pq_model.specs.declared.passes.Call.{Call}
 use Rattle.pq_model.specs.declared.passes.Lane.{Lane}
 use Rattle.pq_model.specs.History.{IsSeat, left}
 use Rattle.pq_model.specs.Passes.{calls_of}

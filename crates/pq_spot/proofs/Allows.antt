@@ -1,5 +1,5 @@
 -- The steps of the spot are allowed.
-use Rattle.std.proofs.Common.{◌≡◌, ◌≢◌, ◌⊎◌, Some, None, ℕ, zero, suc, ◌+◌, ◌-◌, ◌<◌, ◌≤◌, Bool, true, false, cond, eqb, List, [], ◌∷◌, map, length, get_or, set, min, eq-eqb, refl, ap, ◌∙◌, sym, subst, inl, inr, ⊎_elim, arith, Contains}
+use Rattle.std.proofs.Common.{◌≡◌, ◌≢◌, ◌⊎◌, Some, None, ℕ, zero, suc, ◌+◌, ◌-◌, ◌<◌, ◌≤◌, Bool, true, false, cond, eqb, List, [], ◌∷◌, map, length, get_or, set, eq-eqb, refl, ap, ◌∙◌, sym, subst, inl, inr, ⊎_elim, arith, Contains}
 use Rattle.std.proofs.Common.{get_or-set_same, get_or-set_other, ◌++◌}
 use Rattle.std.proofs.lemmas.List.{append-nil}
 use Rattle.std.specs.Prelude.{MatchBool}
@@ -35,7 +35,7 @@ use Rattle.pq_spot.specs.declared.views.SpotPart.{SpotPart}
 use Rattle.pq_spot.specs.Spot.{token, idle, part, lock_word, spot_word, words_needed, max_word, held, IsOffered, SpotTied, removal, batch_of, spot_rule, stored_post, offered_post}
 use Rattle.pq_spot.specs.Spot as spot
 use Rattle.pq_spot.specs.Passes.{IsTried, resting}
-use Rattle.pq_spot.specs.LawsHold.{P, Quiet, same_count, same_letters, quiet_on, quiet_stays, others_offer, offer_on, offer_stays, frame, other_number, spot_laws}
+use Rattle.pq_spot.specs.LawsHold.{P, Quiet, same_count, same_letters, quiet_on, quiet_stays, others_offer, offer_on, offer_stays, frame, spot_laws}
 
 abbrev pub M : Type 0
 M = Me (Unit {0}) (View SpotPart)

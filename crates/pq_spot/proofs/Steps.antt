@@ -16,7 +16,6 @@ use Rattle.pq_seats.specs.declared.views.View.{View}
 use Rattle.pq_seats.specs.Views.{post_of, known_of, with_post}
 use Rattle.pq_seats.specs.Letters.{back}
 use Rattle.pq_seats.specs.Batches.{Batch, insert_of, marks_of, own_place}
-use Rattle.pq_seats.specs.Posts.{placed_view}
 use Rattle.pq_seats.specs.Rules.{Table, Holds, Stands}
 use Rattle.pq_seats.specs.Allowed.{IsOwnChange, Waits, Places, Helps, SendsBack}
 use Rattle.pq_seats.specs.Laws.{MaySee, stepped_to, SilentStepsKeep, PlacingStepsKeep, HelpingStepsKeep, BackStepsKeep}

@@ -1,6 +1,6 @@
 -- The laws of the spot's rule. They stand here since its `impl` names them.
 use Rattle.std.proofs.Common.{◌≡◌, ◌≢◌, Some, None, ℕ, suc, ◌+◌, ◌<◌, List, [], ◌∷◌, ◌++◌, map, get_or, set, min, refl, ap, ◌∙◌, sym, subst, ⊎_elim, arith, Contains}
-use Rattle.std.proofs.Common.{eqb-true, get_or-set_same, get_or-set_other, sum_by, true, false}
+use Rattle.std.proofs.Common.{eqb-true, get_or-set_same, get_or-set_other, sum_by, false}
 use Rattle.std.proofs.lemmas.List.Sums.{sum_by-append}
 use mathlib.Core.Option.{some}
 use lib.ListN.{get_elem?}
