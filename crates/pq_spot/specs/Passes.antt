@@ -1,5 +1,5 @@
 -- A pass of the spot between two calls and within one.
-use Rattle.std.specs.Prelude.{◌≡◌, ℕ, ◌≤◌, Bool, true, false, Some, [], ◌∷◌}
+use Rattle.std.specs.Prelude.{◌≡◌, ℕ, ◌+◌, ◌≤◌, Bool, true, false, Option, Some, None, [], ◌∷◌}
 use Rattle.pq_model.specs.declared.marks.Act.TheVariants.{Insert}
 use Rattle.pq_model.specs.declared.passes.Known.{Known}
 use Rattle.pq_model.specs.declared.marks.Reply.{Reply}
@@ -11,6 +11,7 @@ use Rattle.pq_seats.specs.declared.views.View.{View}
 use Rattle.pq_seats.specs.declared.shared.Shared.{Shared}
 use Rattle.pq_seats.specs.declared.shared.SeatPass.{SeatPass}
 use Rattle.pq_seats.specs.Views.{empty_post}
+use Rattle.pq_seats.specs.Letters.{back}
 use Rattle.pq_seats.specs.Passes.{view_of, Belongs}
 use Rattle.pq_spot.specs.declared.views.Settled.{Settled}
 use Rattle.pq_spot.specs.declared.views.Settled.TheVariants.{Placed, Waits, Back}
@@ -66,6 +67,19 @@ abbrev pub IsSettled : Settled → Known → Known → Type 0
 IsSettled (Placed place) k k' = MakesCall k place (Insert token) replies.Done k'
 IsSettled Waits k k' = k' ≡ k
 IsSettled Back k k' = k' ≡ k
+
+-- a seat that owes this owner a letter, and holds nothing else
+abbrev pub owing : ℕ → ℕ → ℕ → Post SpotPart
+owing n owner letter = record (resting n) { owed = (owner, letter) ∷ [] }
+
+-- whether an offer was accepted, and whether one was sent back
+abbrev pub accepted_by : ℕ → Option (ℕ × ℕ) → Post SpotPart
+accepted_by n (Some x) = owing n x.0 (x.1 + 1)
+accepted_by n None = resting n
+
+abbrev pub refused_by : ℕ → Option ℕ → Post SpotPart
+refused_by n (Some owner) = owing n owner back
+refused_by n None = resting n
 
 -- what a removal is answered
 abbrev pub taken_reply : Bool → Reply

@@ -1,5 +1,5 @@
 //! Calls that see to the offers of other seats, and steps on the history word that the base does not make.
-ghost use Rattle.std.specs.Prelude.{◌≡◌, ℕ, suc, ◌+◌, ◌-◌, ◌<◌, ◌≤◌, ◌^◌, Contains, [], ◌∷◌, length, None};
+ghost use Rattle.std.specs.Prelude.{◌≡◌, ℕ, suc, ◌+◌, ◌-◌, ◌<◌, ◌≤◌, ◌^◌, Contains, [], ◌∷◌, length, None, IfSome};
 ghost use Rattle.pq_model.specs.Limits.{max_seats};
 ghost use Rattle.pq_model.specs.declared.marks.Act.TheVariants as acts;
 ghost use Rattle.pq_api.specs.Limits.{call_limit};
@@ -8,7 +8,8 @@ ghost use Rattle.pq_seats.specs.Views.{with_post};
 ghost use Rattle.pq_seats.specs.Passes.{view_of, known, Belongs, IsSamePass};
 ghost use Rattle.pq_spot.specs.Spot.{lock_word, words_needed, max_word};
 ghost use Rattle.pq_spot.specs.Spot.{accepted_post, refused_post, plain_removal, removed_view, seen_view};
-ghost use Rattle.pq_spot.specs.Passes.{IsStill, resting, locking, taken_reply, Rests};
+ghost use Rattle.pq_words.specs.Letters.{letter_number};
+ghost use Rattle.pq_spot.specs.Passes.{IsStill, resting, locking, owing, accepted_by, refused_by, taken_reply, Rests};
 
 use crate::plays::{Accept, Glance, Grab, Refuse};
 use crate::spot::{LOCK, SPOT, THERE, free, hold, look, put};
@@ -30,24 +31,25 @@ pub fn glance(table: &SpotTable, pass: &mut SpotPass) -> u32
     table.table.shared.load::<Glance>(&mut pass.seat, 0) as u32
 }
 
-/// Places the insert that another seat offers, if one does, and leaves the owner the letter that says where. The answer
-/// tells whether one does. The pass makes no call.
-pub fn accept<W: Wait>(rt: &W, table: &SpotTable, pass: &mut SpotPass) -> bool
+/// Places the insert that another seat offers, if one does. The answer tells which seat does, and the place of its
+/// insert: the pass owes that seat the letter then (`tell`). It makes no call.
+pub fn accept<W: Wait>(rt: &W, table: &SpotTable, pass: &mut SpotPass) -> Option<(u32, u32)>
     requires rests { Rests table.now pass.old }
-    ensures rests { Rests table.now pass.new }
+    ensures own { Belongs table.now pass.new }
     ensures same { IsSamePass pass.old pass.new × IsStill (view_of pass.old) (view_of pass.new) }
+    ensures post { (view_of pass.new).post ≡ accepted_by pass.old.number result }
+    ensures owner { IfSome result (λ x. x.0 ≤ max_seats) }
 {
     let word = hold(rt, table, pass);
     if word <= THERE {
         free(table, pass);
-        return false;
+        return None;
     }
     let owner = (word - 1) as u32;
     let place = place_offered(table, pass, owner);
     put(table, pass, THERE);
-    table.leave_letter(pass, owner, Letter::At(place));
     free(table, pass);
-    true
+    Some((owner, place))
 }
 
 // Places the insert of the seat that offers it, by the holder of the lock.
@@ -65,23 +67,35 @@ fn place_offered(table: &SpotTable, pass: &mut SpotPass, owner: u32) -> u32
     table.table.shared.fetch_add::<Accept>(&mut pass.seat, 0, 1) as u32
 }
 
-/// Sends back the insert that another seat offers, if one does: clears the offer, and leaves the owner the letter Back.
-/// The answer tells whether one does. Nothing is placed.
-pub fn send_back<W: Wait>(rt: &W, table: &SpotTable, pass: &mut SpotPass) -> bool
+/// Sends back the insert that another seat offers, if one does: clears the offer. The answer tells which seat does: the
+/// pass owes that seat the letter Back then (`tell`). Nothing is placed.
+pub fn send_back<W: Wait>(rt: &W, table: &SpotTable, pass: &mut SpotPass) -> Option<u32>
     requires rests { Rests table.now pass.old }
-    ensures rests { Rests table.now pass.new }
+    ensures own { Belongs table.now pass.new }
     ensures same { IsSamePass pass.old pass.new × IsStill (view_of pass.old) (view_of pass.new) }
+    ensures post { (view_of pass.new).post ≡ refused_by pass.old.number result }
+    ensures owner { IfSome result (λ owner. owner ≤ max_seats) }
 {
     let word = hold(rt, table, pass);
     if word <= THERE {
         free(table, pass);
-        return false;
+        return None;
     }
     let owner = (word - 1) as u32;
     clear_offer(table, pass, owner);
-    table.leave_letter(pass, owner, Letter::Back);
     free(table, pass);
-    true
+    Some(owner)
+}
+
+/// Leaves an owner the one letter that the pass owes.
+pub fn tell(table: &SpotTable, pass: &mut SpotPass, owner: u32, letter: Letter)
+    requires own { Belongs table.now pass.old × (words_needed ≤ table.now.words) }
+    requires owner { owner ≤ max_seats }
+    requires owed { (view_of pass.old).post ≡ owing pass.old.number owner (letter_number letter) }
+    ensures rests { Rests table.now pass.new }
+    ensures same { IsSamePass pass.old pass.new × IsStill (view_of pass.old) (view_of pass.new) }
+{
+    table.leave_letter(pass, owner, letter);
 }
 
 // Clears the offer of this seat, by the holder of the lock, who owes it Back then.

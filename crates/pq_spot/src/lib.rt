@@ -10,7 +10,7 @@ mod spot;
 mod tests;
 mod views;
 
-pub use helps::{accept, glance, grab, send_back};
+pub use helps::{accept, glance, grab, send_back, tell};
 pub use rule::{SpotPass, SpotRule, SpotTable};
 pub use spot::{offer, offer_again, open, remove, settle, shut, try_hold, unhold};
 pub use views::{Settled, SpotPart};

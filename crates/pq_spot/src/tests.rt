@@ -6,7 +6,7 @@ ghost use Rattle.pq_spot.specs.Passes.{Rests};
 
 use crate::{
     Settled, SpotPass, SpotTable, accept, glance, grab, offer, offer_again, open, remove,
-    send_back, settle, shut, try_hold, unhold,
+    send_back, settle, shut, tell, try_hold, unhold,
 };
 use pq_words::Letter;
 use std::sync::Wait;
@@ -39,16 +39,20 @@ fn others_place_an_insert(rt: HostRuntime) -> Result<(), Fail> {
     let (table, mut passes) = open(rt.alloc(), 1, 2)?;
     let mut first = passes.remove(0);
     let mut second = passes.remove(0);
-    assert!(rt; !accept(&rt, &table, &mut second));
     assert_eq!(rt; grab(&rt, &table, &mut second), (false, 0));
     assert!(rt; offer(&rt, &table, &mut first));
     assert_eq!(rt; grab(&rt, &table, &mut second), (false, 1));
-    assert!(rt; accept(&rt, &table, &mut second));
+    let Some((owner, place)) = accept(&rt, &table, &mut second) else {
+        panic!(rt; "there is an offer")
+    };
+    assert_eq!(rt; (owner, place), (1, 2));
+    tell(&table, &mut second, owner, Letter::At(place));
     assert_eq!(rt; glance(&table, &mut first), 3);
-    assert!(rt; !accept(&rt, &table, &mut second));
     assert_eq!(rt; settle(&rt, &table, &mut first), Settled::Placed(2));
     assert_eq!(rt; grab(&rt, &table, &mut second), (true, 3));
     assert_eq!(rt; glance(&table, &mut second), 4);
+    assert_eq!(rt; accept(&rt, &table, &mut second), None);
+    assert_eq!(rt; send_back(&rt, &table, &mut first), None);
     Ok(())
 }
 
@@ -58,10 +62,12 @@ fn offers_are_sent_back(rt: HostRuntime) -> Result<(), Fail> {
     let (table, mut passes) = open(rt.alloc(), 1, 2)?;
     let mut first = passes.remove(0);
     let mut second = passes.remove(0);
-    assert!(rt; !send_back(&rt, &table, &mut second));
     assert!(rt; offer(&rt, &table, &mut first));
-    assert!(rt; send_back(&rt, &table, &mut second));
-    assert!(rt; !send_back(&rt, &table, &mut second));
+    let Some(owner) = send_back(&rt, &table, &mut second) else {
+        panic!(rt; "there is an offer")
+    };
+    assert_eq!(rt; owner, 1);
+    tell(&table, &mut second, owner, Letter::Back);
     assert_eq!(rt; remove(&rt, &table, &mut second), (false, 0));
     let settled = settle(&rt, &table, &mut first);
     assert_eq!(rt; settled, Settled::Back);
