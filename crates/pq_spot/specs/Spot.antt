@@ -76,7 +76,7 @@ pub record SpotTied (k : Limits) (words : List ℕ) (posts : List (Post SpotPart
   pub free : slice_index words lock_word ≡ 0 → slice_index words spot_word ≡ counted
   pub mine : (j : ℕ) (p : Post SpotPart) → get_elem? posts j ≡ some p → Contains p.locks lock_word
       → (p.own.counted ≡ counted) × (p.own.stored ≡ slice_index words spot_word)
-  -- a seat that has offered nothing since it last took a letter has none
+  -- who has no offer out has no letter
   pub quiet : (j : ℕ) (p : Post SpotPart) → get_elem? posts j ≡ some p → IsSeat max_seats p.number → p.own.out ≡ false
       → letter_count p.number words posts ≡ 0
 

@@ -5,7 +5,7 @@ pub struct SpotPart {
     /// Under the lock the spot's word as it is stored, and what the spot counts as. Else both are 0.
     pub stored: u64,
     pub counted: u64,
-    /// Whether the seat has offered the entry since it last took a letter.
+    /// Whether the seat has offered the entry since it last took a letter or placed its own insert.
     pub out: bool,
 }
 
