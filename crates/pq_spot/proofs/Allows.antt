@@ -2,8 +2,7 @@
 use Rattle.std.proofs.Common.{◌≡◌, ◌≢◌, ◌⊎◌, Some, None, ℕ, zero, suc, ◌+◌, ◌-◌, ◌<◌, ◌≤◌, Bool, true, false, cond, eqb, List, [], ◌∷◌, map, length, get_or, set, eq-eqb, refl, ap, ◌∙◌, sym, subst, inl, inr, ⊎_elim, arith, Contains}
 use Rattle.std.proofs.Common.{get_or-set_same, get_or-set_other, ◌++◌}
 use Rattle.std.proofs.lemmas.List.{append-nil}
-use Rattle.std.specs.Prelude.{MatchBool}
-use mathlib.Core.Option.{some, none, some-injective, some-ne-none}
+use mathlib.Core.Option.{some, none, some-injective}
 use lib.ListN.{get_elem?}
 use native.Mathlib.Decide.{ℕ_discrete}
 use mathlib.Core.Logic.{dite}
@@ -18,14 +17,12 @@ use Rattle.pq_model.specs.Passes.{lane, calls_of}
 use Rattle.pq_api.specs.Limits.{call_limit}
 use Rattle.pq_seats.specs.declared.views.Limits.{Limits}
 use Rattle.pq_seats.specs.declared.views.View.{View}
-use Rattle.pq_seats.specs.Views.{post_of, empty_post, known_of, with_post}
+use Rattle.pq_seats.specs.Views.{post_of, known_of, with_post}
 use Rattle.pq_seats.specs.Letters.{owed_count, letter_count, without}
 use Rattle.pq_seats.specs.Batches.{Batch, marks_of, own_place, letters_of, letters_from}
 use Rattle.pq_seats.specs.Posts.{with_lock, without_lock, without_letter, placed_post}
 use Rattle.pq_seats.specs.Rules.{Table, Holds, Stands}
 use Rattle.pq_seats.specs.Allowed.{IsOwnChange, Waits, helps, Places, MayTake, MayFree, MayLeave, MayDraw}
-use Rattle.pq_seats.specs.Steps.{Took, Missed}
-use Rattle.pq_seats.specs.Seats.{Begins}
 use Rattle.pq_seats.proofs.Lists.{not_in, in_first, in_cases, less_has, sum_one, put_here, same_at, at_unmap, test_same, test_other}
 use Rattle.pq_seats.proofs.Marks.{owed_count-append, owed_count-cons}
 use Rattle.pq_seats.proofs.Keeps.{settled, own_lane, one_number, number_low, untouched}
@@ -34,7 +31,6 @@ use Rattle.pq_seats.proofs.Lengths.{few_marks}
 use Rattle.pq_spot.specs.declared.views.SpotPart.{SpotPart}
 use Rattle.pq_spot.specs.Spot.{token, idle, part, lock_word, spot_word, words_needed, max_word, held, IsOffered, SpotTied, removal, batch_of, spot_rule, stored_post, offered_post}
 use Rattle.pq_spot.specs.Spot as spot
-use Rattle.pq_spot.specs.Passes.{IsTried, resting}
 use Rattle.pq_spot.specs.LawsHold.{P, Quiet, same_count, same_letters, quiet_on, quiet_stays, others_offer, offer_on, offer_stays, frame, spot_laws}
 
 abbrev pub M : Type 0
@@ -398,32 +394,3 @@ module _ (k : Limits) where
 pub letters_are : (owner first : ℕ) → 1 ≤ owner → letters_from first (removal (suc owner)) ≡ (owner, first + 1) ∷ []
 letters_are zero first low = absurd (omega arith)
 letters_are (suc o) first low = refl
-
--- What a try of the lock tells
-pub tried_is : (n : ℕ) (v w : View SpotPart) (b : Bool) → v.post ≡ resting n → MatchBool b (Took spot_rule v w lock_word) (Missed spot_rule v w) → IsTried n b v w
-tried_is n v w true rests t = (t.own.counted, record { post = t.post ∙ (λ j. with_lock (rests j) lock_word (part (t.taken.0 j) t.own.counted ((t.taken.1 ∙ ap (λ (p : P). p.own.out) rests) j))); lanes = t.lanes; front = t.front })
-tried_is n v w false rests m = record { post = m.same.post ∙ rests; lanes = m.same.lanes; front = m.same.front }
-
--- The words of a new table
-pub spot_begins : (k : Limits) (words : List ℕ) → IsSeat max_seats k.seats → 1 ≤ k.capacity → length words ≡ words_needed → ((i : ℕ) → get_or words i 0 ≡ 0) → Begins spot_rule k words
-spot_begins k words seat room long all = record {
-  seats = seat;
-  letters = omega arith;
-  width = omega arith;
-  empty = all 0;
-  zeros = λ n range. all n;
-  unlocked = λ i is. all i;
-  tied = record {
-    room = room;
-    counted = 0;
-    entries = refl;
-    offers = λ n is. absurd (omega arith);
-    free = λ e. all 18;
-    mine = λ j p at has. absurd (not_in lock_word (subst (λ (q : P). Contains q.locks lock_word) (sym (only j p at)) has));
-    quiet = λ j p at seated loose. let low = seated.0 in let is : 0 ≡ p.number = ap (λ (q : P). q.number) (only j p at) in absurd (omega arith);
-  };
-}
-  where
-    only : (j : ℕ) (p : P) → get_elem? (empty_post idle 0 ∷ []) j ≡ some p → empty_post idle 0 ≡ p
-    only zero p at = some-injective _ p at
-    only (suc j) p at = absurd (some-ne-none p (sym at))

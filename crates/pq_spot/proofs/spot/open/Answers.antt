@@ -6,7 +6,7 @@ use Rattle.pq_seats.specs.Seats.{limits_for}
 use Rattle.pq_spot.specs.declared.views.SpotPart.{SpotPart}
 use Rattle.pq_spot.specs.Passes.{resting}
 use Rattle.pq_seats.proofs.Lists.{zero_more}
-use Rattle.pq_spot.proofs.Allows.{spot_begins}
+use Rattle.pq_spot.proofs.Opening.{spot_begins}
 use Rattle.pq_spot.proofs.spot.open.Goals as goal
 
 pub loop-preserved : goal.loop-preserved

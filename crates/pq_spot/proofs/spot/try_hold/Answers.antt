@@ -1,6 +1,7 @@
 use Rattle.std.proofs.Common.{ℕ, arith, sym, subst}
 use Rattle.pq_spot.specs.Passes.{IsTried}
-use Rattle.pq_spot.proofs.Allows.{may_take, tried_is}
+use Rattle.pq_spot.proofs.Allows.{may_take}
+use Rattle.pq_spot.proofs.Opening.{tried_is}
 use Rattle.pq_spot.proofs.spot.try_hold.Goals as goal
 
 pub try_lock-requires-clause-allowed : goal.try_lock-requires-clause-allowed
