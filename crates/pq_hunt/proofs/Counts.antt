@@ -14,7 +14,7 @@ use Rattle.pq_hunt.specs.declared.nodes.Node.TheVariants.{Empty, Available, Busy
 use Rattle.pq_hunt.specs.Nodes.{node, used, busy_of, IsShape}
 use Rattle.pq_hunt.proofs.Counting.{busy, weigh, Holds}
 use Rattle.pq_hunt.specs.Flights.{Flight, IsFlown}
-use Rattle.pq_hunt.proofs.Heaps.{in_use}
+use Rattle.pq_hunt.specs.LawsHold.Owners.{in_use}
 
 pub sum_by-both : {X : Type 0} (f g : X → ℕ) (xs : List X) → sum_by (λ x. f x + g x) xs ≡ sum_by f xs + sum_by g xs
 sum_by-both f g [] = refl

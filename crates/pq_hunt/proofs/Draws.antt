@@ -26,7 +26,6 @@ use Rattle.pq_seats.proofs.Lengths.{short}
 use Rattle.pq_nodes.specs.Guards.{IsGuarded}
 use Rattle.pq_nodes.specs.Guards.{IsSetAt}
 use Rattle.pq_nodes.proofs.Written.{two_place_sums}
-use Rattle.pq_nodes.proofs.Locks.{counted_is}
 use Rattle.pq_hunt.specs.declared.nodes.Node.{Node}
 use Rattle.pq_hunt.specs.declared.nodes.Node.TheVariants.{Empty, Available, Busy, Hole}
 use Rattle.pq_hunt.specs.Nodes.{node, busy_of}
@@ -35,15 +34,20 @@ use Rattle.pq_hunt.specs.Flights.{Flight, flight}
 use Rattle.pq_hunt.specs.Flights as flights
 use Rattle.pq_hunt.specs.Facts.{HeapFacts}
 use Rattle.pq_hunt.specs.Marks.{helped_mark}
-use Rattle.pq_hunt.specs.declared.views.Guard.{Guard}
+use Rattle.pq_hunt.specs.Guards.{Guard}
 use Rattle.pq_hunt.specs.declared.views.HuntPart.{HuntPart}
-use Rattle.pq_hunt.specs.Layout.{heap_lock, lock_of}
+use Rattle.pq_hunt.specs.Layout.{heap_lock}
 use Rattle.pq_hunt.specs.Batches.{entry_at, flight_at}
-use Rattle.pq_hunt.specs.Ties.{kind, locks_in, words_in, HuntTied}
+use Rattle.pq_nodes.specs.Facts.{locks_in, words_in}
+use Rattle.pq_hunt.specs.Ties.{HuntTied}
 use Rattle.pq_hunt.specs.Rules.{hunt_rule}
-use Rattle.pq_hunt.specs.LawsHold.Frames.{guarded_on, same_locks, same_words}
-use Rattle.pq_hunt.proofs.Changes.{ps, pat, changed}
-use Rattle.pq_hunt.proofs.Guarding.{nodes_of, in_same, apart_same}
+use Rattle.pq_nodes.proofs.Keeping.{guard_counts, guarded_on, step_keeps, same_names}
+use Rattle.pq_nodes.proofs.Tables.{same_locks, same_words}
+use Rattle.pq_hunt.specs.LawsHold.Changes.{ps, pat, changed}
+use Rattle.pq_nodes.specs.Views.{nodes_of}
+use Rattle.pq_nodes.proofs.GuardLists.{in_same}
+use Rattle.pq_hunt.specs.NodeParts.{hunt_nodes}
+use Rattle.pq_nodes.specs.Parts.{kind_of}
 
 -- the inserts that a node holds, as marks, and as letters of an owner
 pub marks_flight : (v : Node) → map insert_of (flight_at v) ≡ helped_mark v
@@ -143,7 +147,7 @@ module _ (k : Limits) (s : Table HuntPart) (h : Holds hunt_rule k s) (id : ℕ) 
     pub size : ℕ
     pub of : ℕ → Flight
     pub nodes : List Node
-    pub guarded : IsGuarded kind (locks_in s.words) (words_in s.words) (set qs id (drawn_post b own)) nodes
+    pub guarded : IsGuarded (kind_of hunt_nodes) (locks_in s.words) (words_in s.words) (set qs id (drawn_post b own)) nodes
     pub facts : HeapFacts k.seats k.capacity size of nodes m'
     pub sized : ((size ≡ t.size) × (own.size_counted ≡ v.post.own.size_counted)) ⊎ (Contains v.post.locks heap_lock × (own.size_counted ≡ size))
     pub stored : own.size_stored ≡ v.post.own.size_stored
@@ -174,12 +178,11 @@ module _ (k : Limits) (s : Table HuntPart) (h : Holds hunt_rule k s) (id : ℕ) 
         size = d.size;
         of = d.of;
         nodes = d.nodes;
-        guarded = guarded_on kind (locks_in s.words) (locks_in ws) (words_in s.words) (words_in ws) (set qs id p') (set qs id p') d.nodes
-            (same_locks s.words 0 new (omega arith)) (same_words s.words 0 new (omega arith)) (λ j q g to has. (q, to, has)) d.guarded;
+        tree = step_keeps hunt_nodes s.words qs t.nodes t.tree id v.post here ws p' d.nodes
+            (guarded_on (kind_of hunt_nodes) (locks_in s.words) (locks_in ws) (words_in s.words) (words_in ws) (set qs id p') (set qs id p') d.nodes
+            (same_locks s.words 0 new (omega arith)) (same_words s.words 0 new (omega arith)) (λ j q g to has. (q, to, has)) d.guarded)
+            (same_names hunt_nodes s.words qs t.nodes t.tree id v.post here p' refl d.same);
         facts = d.facts;
-        holds = λ g has. let r = in_same v.post.own.guards own.guards d.same g has in subst (λ (z : ℕ). Contains v.post.locks (lock_of z)) r.2 (t.holds id v.post r.0 here r.1);
-        named = λ j has. let old = t.named id v.post j here has in let r = in_same own.guards v.post.own.guards (sym d.same) old.0 old.1 in (r.0, r.1, r.2 ∙ old.2);
-        apart = apart_same v.post.own.guards own.guards d.same (t.apart id v.post here);
         sizes = record {
           free = λ e. ⊎_elim (λ q. there ∙ (t.free (sym lock ∙ e) ∙ sym q.0))
               (λ q. let mine = (h.each id v at).held heap_lock q.0 in let is_mine = mine.1 in absurd (omega arith)) d.sized;
@@ -225,17 +228,17 @@ module _ (k : Limits) (s : Table HuntPart) (h : Holds hunt_rule k s) (id : ℕ) 
   pub fewer_waits : (less : ℕ → ℕ) → ((q : ℕ) → less q ≤ (t.of q).waiting) → flights.Waits t.of (fewer less) less
   fewer_waits less enough = record { entries = λ q. refl; places = λ q. refl; waits = λ q. let e = enough q in omega arith }
 
-  pub unchanged_guards : (b : Batch) (own : HuntPart) → own.guards ≡ v.post.own.guards → IsGuarded kind (locks_in s.words) (words_in s.words) (set qs id (drawn_post b own)) t.nodes
-  unchanged_guards b own same = guarded_on kind (locks_in s.words) (locks_in s.words) (words_in s.words) (words_in s.words) qs (set qs id (drawn_post b own)) t.nodes (λ i. refl) (λ i. refl)
+  pub unchanged_guards : (b : Batch) (own : HuntPart) → own.guards ≡ v.post.own.guards → IsGuarded (kind_of hunt_nodes) (locks_in s.words) (words_in s.words) (set qs id (drawn_post b own)) t.nodes
+  unchanged_guards b own same = guarded_on (kind_of hunt_nodes) (locks_in s.words) (locks_in s.words) (words_in s.words) (words_in s.words) qs (set qs id (drawn_post b own)) t.nodes (λ i. refl) (λ i. refl)
       (λ j q g to has. ⊎_elim
       (λ e. (v.post, subst (λ (z : ℕ). get_elem? qs z ≡ some v.post) (sym e.0) here, subst (λ (l : List Guard). Contains l g) same (subst (λ (z : Post HuntPart). Contains z.own.guards g) (sym e.1) has)))
       (λ a. (q, a.1, has)) (at_set qs id j (drawn_post b own) q to))
-      t.guarded
+      t.tree.guarded
 
   -- the node that a guard is of counts as the guard says
   pub counts : (g : Guard) → Contains v.post.own.guards g → node t.nodes g.node ≡ g.counted
-  counts g has = counted_is kind (locks_in s.words) (words_in s.words) qs t.nodes id v.post g t.guarded here has
+  counts g has = guard_counts hunt_nodes s.words qs t.nodes t.tree id v.post here g has
 
   -- no word is stored
   pub nothing_set : (g : Guard) → Contains v.post.own.guards g → IsSetAt (words_in s.words) (words_in s.words) g.node g.stored
-  nothing_set g has = record { own = (t.guarded.held id v.post g here has).stored; others = λ i ne. refl }
+  nothing_set g has = record { own = (t.tree.guarded.held id v.post g here has).stored; others = λ i ne. refl }

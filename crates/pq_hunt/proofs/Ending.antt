@@ -1,5 +1,5 @@
 -- What the words of a closed heap leave.
-use Rattle.std.proofs.Common.{◌≡◌, ℕ, zero, suc, ◌+◌, ◌<◌, ◌≤◌, true, false, List, [], ◌∷◌, ◌++◌, drop, length, get_or, refl, sym, ap, ◌∙◌, subst, arith}
+use Rattle.std.proofs.Common.{◌≡◌, ℕ, suc, ◌+◌, ◌<◌, ◌≤◌, true, false, List, [], ◌∷◌, ◌++◌, drop, length, get_or, refl, sym, ap, ◌∙◌, subst, arith}
 use Rattle.std.specs.Prelude.{slice_index}
 use Rattle.std.specs.declared.cmp.Ordering.{Ordering}
 use Rattle.std.specs.Ordering.{nat_cmp, is_lt, ordering_then}
@@ -24,7 +24,8 @@ use Rattle.pq_seats.specs.Seats.{Ended}
 use Rattle.pq_seats.proofs.Lists.{read_at}
 use Rattle.std.proofs.lemmas.Bool.Decides.{nat_tests}
 use Rattle.pq_hunt.specs.Nodes.{node, standing}
-use Rattle.pq_hunt.specs.Layout.{lock_of, word_of, is_lock}
+use Rattle.pq_nodes.specs.Layout.{lock_of, word_of}
+use Rattle.pq_hunt.specs.Layout.{is_lock}
 use Rattle.pq_hunt.specs.Words.{Means}
 use Rattle.pq_hunt.specs.Rules.{hunt_rule}
 use Rattle.pq_hunt.specs.Queues.{SayNodes}
@@ -83,7 +84,7 @@ says : (k : Limits) (v : View HuntPart) (words : List ℕ) (e : Ended hunt_rule 
 says k v words e = let t = e.tied in let long = t.facts.long in record {
   long = long;
   first = t.facts.shape.first;
-  means = λ i low high. t.guarded.free i (omega arith) (e.unlocked (lock_of i) (node_lock k.capacity i low high));
+  means = λ i low high. t.tree.guarded.free i (omega arith) (e.unlocked (lock_of i) (node_lock k.capacity i low high));
 }
 
 module _ (k : Limits) (v : View HuntPart) (words : List ℕ) (e : Ended hunt_rule k v words) (capacity : ℕ) (sized : capacity ≡ k.capacity) where

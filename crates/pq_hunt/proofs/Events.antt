@@ -22,7 +22,8 @@ use Rattle.pq_hunt.specs.Laws.{FullIsAStep, LeavesKeep, ClimbsKeep, SettlesAreSt
 use Rattle.pq_hunt.specs.Laws.{EmptyIsAStep, DrawsAreSteps, LastDrawsAreSteps, AboveIsAStep, SiftsKeep, FillsKeep}
 use Rattle.pq_hunt.specs.Laws.{NewHeapsKeep, QuietHeapsAreNotBusy}
 use Rattle.pq_hunt.proofs.Counting.{bound, weigh, IsHeap, Holds}
-use Rattle.pq_hunt.proofs.Heaps.{in_use, used_word, leaf, climb, sift, fill}
+use Rattle.pq_hunt.specs.LawsHold.Owners.{in_use}
+use Rattle.pq_hunt.proofs.Heaps.{used_word, leaf, climb, sift, fill}
 use Rattle.pq_hunt.proofs.Weights.{holds_set, holds_two}
 use Rattle.pq_hunt.proofs.Counts.{empty_at_zero, full_is_step}
 use Rattle.pq_hunt.proofs.Steps.{IsPlaced, drawn, drawn_only, settled, above}

@@ -4,9 +4,7 @@ use Rattle.std.proofs.Common.{sym, ap, ◌∙◌, subst, arith}
 use Rattle.std.specs.Prelude.{All, sum_by}
 use native.Mathlib.Decide.{ℕ_discrete}
 use mathlib.Core.Logic.{dite}
-use Rattle.std.proofs.lemmas.Bool.{eq-eqb}
 use Rattle.std.proofs.lemmas.Bool.Decides.{eqb_tells}
-use Rattle.std.proofs.lemmas.List.{length-set}
 use Rattle.std.proofs.lemmas.List.Sums.{sum_by-set, sum_by-le, get_or-le-sum_by}
 use Rattle.std.proofs.lemmas.List.Elements.{All-from_get_or}
 use Rattle.pq_words.specs.declared.entries.Entry.{Entry}
@@ -19,13 +17,8 @@ use Rattle.pq_hunt.specs.Order.{HasWord}
 use Rattle.pq_hunt.specs.Flights.{Flight, flight, looking_at, IsFlown, IsOther}
 use Rattle.pq_nodes.proofs.Ancestors.{parent, below_end, above_above, above_lt}
 use Rattle.pq_hunt.proofs.Writes.{node_same, node_other, two_writes, two_sums}
-use Rattle.pq_hunt.proofs.Heaps.{in_use, used_word}
-
-busy_own : (o : ℕ) (x : Entry) → busy_of o (Busy o x) ≡ 1
-busy_own o x = ap (λ (b : Bool). cond {A = ℕ} b 1 0) (eq-eqb o o refl)
-
-pub busy_at : (o : ℕ) (x : Entry) (v : Node) → v ≡ Busy o x → busy_of o v ≡ 1
-busy_at o x v is = ap (busy_of o) is ∙ busy_own o x
+use Rattle.pq_hunt.specs.LawsHold.Owners.{in_use, busy_own, busy_at, one_busy}
+use Rattle.pq_hunt.proofs.Heaps.{used_word}
 
 -- where an owner has no Busy node, none is its
 pub none_busy : (o : ℕ) (x : Entry) (i size : ℕ) (t : List Node) → IsShape size t → sum_by (busy_of o) t ≡ 0
@@ -34,18 +27,6 @@ none_busy o x i size t s none is = let at = in_use size t i s (ap used is) in le
     let within = s.within in
     let part = get_or-le-sum_by (busy_of o) t i Empty (omega arith) in
     let one = busy_at o x (node t i) is in omega arith
-
--- where it has one, no other is its
-pub one_busy : (o : ℕ) (x y : Entry) (i c size : ℕ) (t : List Node) → IsShape size t → sum_by (busy_of o) t ≤ 1
-    → node t c ≡ Busy o x → node t i ≡ Busy o y → i ≡ c
-one_busy o x y i c size t s most is also = dite (ℕ_discrete i c) (λ e. e)
-    (λ ne. let at = in_use size t i s (ap used also) in let high = at.1 in let c_at = in_use size t c s (ap used is) in
-    let c_high = c_at.1 in let within = s.within in
-    let sum = sum_by-set (busy_of o) t c Empty Empty (omega arith) in
-    let part = get_or-le-sum_by (busy_of o) (set t c Empty) i Empty (omega (arith, length-set t c Empty)) in
-    let other : busy_of o (node (set t c Empty) i) ≡ 1 = ap (busy_of o) (node_other t c i Empty ne)
-    ∙ busy_at o y (node t i) also in
-    let one = busy_at o x (node t c) is in absurd (omega arith))
 
 -- an insert takes the next node
 pub flown_leaf : (seats size : ℕ) (of of' : ℕ → Flight) (t : List Node) (o : ℕ) (x : Entry) → IsFlown seats of t

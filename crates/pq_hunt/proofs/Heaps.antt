@@ -16,16 +16,8 @@ use Rattle.pq_hunt.specs.declared.nodes.Node.TheVariants.{Empty, Available, Busy
 use Rattle.pq_hunt.specs.Nodes.{node, used, IsShape}
 use Rattle.pq_hunt.specs.Order.{HasWord, MayStandOver, MaySettle}
 use Rattle.pq_hunt.proofs.Counting.{bound, stand, bounds, stands, IsHeap, bound-le, stand-le}
+use Rattle.pq_hunt.specs.LawsHold.Owners.{in_use}
 use Rattle.pq_hunt.proofs.Writes.{node_same, node_other, two_writes}
-
--- where a node in use is
-pub in_use : (size : ℕ) (t : List Node) (h : ℕ) → IsShape size t → used (node t h) ≡ 1 → (1 ≤ h) × (h ≤ size)
-in_use size t h s is = (
-  dite (ℕ_discrete h 0) (λ e. let none : used (node t h) ≡ 0 = ap (λ (z : ℕ). used (node t z)) e ∙ ap used s.first in
-      absurd (omega arith)) (λ ne. omega arith),
-  dite (ℕ_discrete (h - size) 0) (λ e. omega arith) (λ ne. let none : used (node t h) ≡ 0 = ap used
-      (s.clear h (omega arith)) in absurd (omega arith)),
-)
 
 pub used_word : (v : Node) (e : Entry) → HasWord v e → used v ≡ 1
 used_word v e has = ⊎_elim (λ q. ap used q) (λ q. ap used q.1) has

@@ -16,25 +16,30 @@ use Rattle.pq_seats.specs.Rules.{Table, Holds}
 use Rattle.pq_seats.specs.Allowed.{Places}
 use Rattle.pq_seats.proofs.Lists.{in_first, in_later, not_in}
 use Rattle.pq_nodes.specs.Guards.{IsGuarded}
-use Rattle.pq_nodes.proofs.Locks.{guard_written}
+use Rattle.pq_nodes.proofs.Guarded.{guard_written}
 use Rattle.pq_hunt.specs.declared.nodes.Node.{Node}
 use Rattle.pq_hunt.specs.declared.nodes.Node.TheVariants.{Available, Busy}
 use Rattle.pq_hunt.specs.Nodes.{node, busy_of}
 use Rattle.pq_hunt.specs.Flights.{Flight}
 use Rattle.pq_hunt.specs.Facts.{HeapFacts}
 use Rattle.pq_hunt.proofs.Events.{event_settle, event_full}
-use Rattle.pq_hunt.specs.declared.views.Guard.{Guard}
+use Rattle.pq_hunt.specs.Guards.{Guard}
 use Rattle.pq_hunt.specs.declared.views.HuntPart.{HuntPart}
 use Rattle.pq_hunt.specs.Layout.{heap_lock}
-use Rattle.pq_hunt.specs.Views.{guard}
+use Rattle.pq_nodes.specs.Views.{guard}
 use Rattle.pq_hunt.specs.Batches.{entry_at, insertion, settled, after_insert}
-use Rattle.pq_hunt.specs.Ties.{kind, locks_in, words_in, IsApart, HuntTied}
+use Rattle.pq_nodes.specs.Facts.{locks_in, words_in}
+use Rattle.pq_nodes.specs.Views.{IsApart}
+use Rattle.pq_hunt.specs.Ties.{HuntTied}
 use Rattle.pq_hunt.specs.Rules.{hunt_rule}
-use Rattle.pq_hunt.specs.LawsHold.{number_low}
-use Rattle.pq_hunt.proofs.Changes.{ps, pat}
-use Rattle.pq_hunt.proofs.Guarding.{nodes_of, first_cases, second_cases}
+use Rattle.pq_hunt.specs.LawsHold.Frames.{number_low}
+use Rattle.pq_hunt.specs.LawsHold.Changes.{ps, pat}
+use Rattle.pq_nodes.specs.Views.{nodes_of}
+use Rattle.pq_nodes.proofs.GuardLists.{first_cases, second_cases}
 use Rattle.pq_hunt.proofs.Draws.{own_apart, draws_tie, own_idle, one_waits, fewer_waits, unchanged_guards, counts, nothing_set}
 use Rattle.pq_hunt.proofs.Draws as draws
+use Rattle.pq_nodes.specs.Parts.{kind_of}
+use Rattle.pq_hunt.specs.NodeParts.{hunt_nodes}
 
 module _ (k : Limits) (s : Table HuntPart) (h : Holds hunt_rule k s) (id : ℕ) (v : View HuntPart) (at : get_elem? s.views id ≡ some v) where
   abbrev qs : List (Post HuntPart)
@@ -94,12 +99,12 @@ module _ (k : Limits) (s : Table HuntPart) (h : Holds hunt_rule k s) (id : ℕ) 
 
     pub places_done : (new : ℕ) → 0 < v.post.number → v.post.owed ≡ [] → v.post.own.climbing ≡ 1
         → (f.node ≡ 1) ⊎ ((x : Entry) × (node t.nodes (f.node / 2) ≡ Available x) × (raw_of x ≤ raw_of e))
-        → IsGuarded kind (locks_in s.words) (words_in s.words) (set qs id (drawn_post (insertion 1) own)) settled_nodes
+        → IsGuarded (kind_of hunt_nodes) (locks_in s.words) (words_in s.words) (set qs id (drawn_post (insertion 1) own)) settled_nodes
         → nodes_of own.guards ≡ nodes_of v.post.own.guards → own.size_counted ≡ v.post.own.size_counted → own.size_stored ≡ v.post.own.size_stored → own.lettered ≡ v.post.own.lettered → own.climbing ≡ 0
         → Places hunt_rule k id v (Insert e) (insertion 1) own new s h
     places_done new positive owed climbing may guarded same counted stored lettered done =
         let n : ℕ = v.post.number in
-        let within = (t.guarded.held id v.post f here has).within in
+        let within = (t.tree.guarded.held id v.post f here has).within in
         let at_f : node t.nodes f.node ≡ Busy n e = counts k s h id v at f has ∙ busy in
         let told = t.told id v.post here positive in
         let busy_one : busy_of n (node t.nodes f.node) ≡ 1 = ap (busy_of n) at_f ∙ ap (λ (z : Bool). cond z 1 0) (eq-eqb n n refl) in
@@ -142,9 +147,9 @@ module _ (k : Limits) (s : Table HuntPart) (h : Holds hunt_rule k s) (id : ℕ) 
       let f' : Guard = guard f.node f.stored (Available e) in
       let entry : entry_at f.counted ≡ e = ap entry_at busy in
       let is : own.guards ≡ f' ∷ [] = ap settled guards ∙ ap (λ (z : Entry). guard f.node f.stored (Available z) ∷ []) entry in
-      let apart : IsApart (f ∷ []) = subst IsApart guards (t.apart id v.post here) in
+      let apart : IsApart (f ∷ []) = subst IsApart guards (t.tree.names id v.post here).apart in
       places_done f e own has busy new positive owed climbing (inl root)
-      (guard_written kind (locks_in s.words) (words_in s.words) (words_in s.words) qs t.nodes id v.post (drawn_post (insertion 1) own) f f' t.guarded here has refl (nothing_set k s h id v at f has)
+      (guard_written (kind_of hunt_nodes) (locks_in s.words) (words_in s.words) (words_in s.words) qs t.nodes id v.post (drawn_post (insertion 1) own) f f' t.tree.guarded here has refl (nothing_set k s h id v at f has)
       (λ z at_z. ⊎_elim (λ q. inl q) (λ r. inr (r.0, subst (λ (l : List Guard). Contains l z) (sym guards) r.1)) (first_cases f f' [] refl apart z (subst (λ (l : List Guard). Contains l z) is at_z))))
       (ap nodes_of is ∙ sym (ap nodes_of guards)) refl refl refl refl
 
@@ -158,8 +163,8 @@ module _ (k : Limits) (s : Table HuntPart) (h : Holds hunt_rule k s) (id : ℕ) 
       let f' : Guard = guard f.node f.stored (Available e) in
       let entry : entry_at f.counted ≡ e = ap entry_at busy in
       let is : own.guards ≡ g ∷ f' ∷ [] = ap settled guards ∙ ap (λ (z : Entry). g ∷ guard f.node f.stored (Available z) ∷ []) entry in
-      let apart : IsApart (g ∷ f ∷ []) = subst IsApart guards (t.apart id v.post here) in
+      let apart : IsApart (g ∷ f ∷ []) = subst IsApart guards (t.tree.names id v.post here).apart in
       places_done f e own has busy new positive owed climbing (inr (x, ap (node t.nodes) child ∙ (counts k s h id v at g has_g ∙ above), under))
-      (guard_written kind (locks_in s.words) (words_in s.words) (words_in s.words) qs t.nodes id v.post (drawn_post (insertion 1) own) f f' t.guarded here has refl (nothing_set k s h id v at f has)
+      (guard_written (kind_of hunt_nodes) (locks_in s.words) (words_in s.words) (words_in s.words) qs t.nodes id v.post (drawn_post (insertion 1) own) f f' t.tree.guarded here has refl (nothing_set k s h id v at f has)
       (λ z at_z. ⊎_elim (λ q. inl q) (λ r. inr (r.0, subst (λ (l : List Guard). Contains l z) (sym guards) r.1)) (second_cases g f f' [] refl apart z (subst (λ (l : List Guard). Contains l z) is at_z))))
       (ap nodes_of is ∙ sym (ap nodes_of guards)) refl refl refl refl

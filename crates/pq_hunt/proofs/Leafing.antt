@@ -9,14 +9,17 @@ use Rattle.pq_seats.specs.Posts.{less}
 use Rattle.pq_hunt.specs.declared.nodes.Node.{Node}
 use Rattle.pq_hunt.specs.declared.nodes.Node.TheVariants.{Available, Busy}
 use Rattle.pq_hunt.specs.Words.{Means}
-use Rattle.pq_hunt.specs.declared.views.Guard.{Guard}
+use Rattle.pq_hunt.specs.Guards.{Guard}
 use Rattle.pq_hunt.specs.declared.views.HuntPart.{HuntPart}
-use Rattle.pq_hunt.specs.Layout.{lock_of}
-use Rattle.pq_hunt.specs.Views.{guard}
+use Rattle.pq_nodes.specs.Layout.{lock_of}
+use Rattle.pq_nodes.specs.Views.{guard}
 use Rattle.pq_hunt.specs.Steps.{busy_number, sizing, leafed}
 use Rattle.pq_seats.specs.declared.views.View.{View}
 use Rattle.pq_seats.specs.Views.{with_post}
-use Rattle.pq_hunt.specs.Passes.{Holds, with_node, without_node, without_heap, IsFreeable, CanLeaf, at_heap, in_flight}
+use Rattle.pq_nodes.specs.Passes.{ComesTo}
+use Rattle.pq_nodes.specs.Parts.{with_node, without_node, IsFreeable}
+use Rattle.pq_hunt.specs.Passes.{without_heap, CanLeaf, at_heap, in_flight}
+use Rattle.pq_hunt.specs.NodeParts.{hunt_nodes}
 
 -- the word of a Busy node means it
 pub busy_means : (n : ℕ) (e : Entry) → 1 ≤ n → n ≤ 16 → Means (Busy n e) (busy_number n e)
@@ -43,7 +46,7 @@ own_test i = eq-eqb (lock_of i) (lock_of i) refl
 -- the leaf's guard, and the posts of a seat that takes a leaf
 module _ (n leaf : ℕ) (e : Entry) (was word : ℕ) (counted : Node) where
   abbrev pub locked : Post HuntPart
-  locked = with_node (at_heap n (leaf - 1)) (guard leaf was counted)
+  locked = with_node hunt_nodes (at_heap n (leaf - 1)) (guard leaf was counted)
 
   abbrev pub sized : Post HuntPart
   sized = sizing locked leaf
@@ -58,7 +61,7 @@ module _ (n leaf : ℕ) (e : Entry) (was word : ℕ) (counted : Node) where
   pub locks_left : unheaped.locks ≡ lock_of leaf ∷ []
   locks_left = ap (λ (b : Bool). cond {A = List ℕ} b (less 24 (24 ∷ [])) (lock_of leaf ∷ less 24 (24 ∷ []))) (heap_test leaf)
 
-  pub leaf_taken : without_node unheaped leaf ≡ in_flight n e leaf
+  pub leaf_taken : without_node hunt_nodes unheaped leaf ≡ in_flight n e leaf
   leaf_taken = λ j. record {
     number = n;
     locks = (ap (λ (l : List ℕ). less (lock_of leaf) l) locks_left ∙ ap (λ (b : Bool). cond {A = List ℕ} b [] (lock_of leaf ∷ [])) (own_test leaf)) j;
@@ -77,8 +80,8 @@ module _ (n leaf : ℕ) (e : Entry) (was word : ℕ) (counted : Node) where
   abbrev V : Type 0
   V = View HuntPart
 
-  pub to_locked : (v w : V) → v.post ≡ at_heap n (leaf - 1) → Holds v w (with_node v.post (guard leaf was counted)) → w.post ≡ locked
-  to_locked v w q t = t.post ∙ ap (λ (p : Post HuntPart). with_node p (guard leaf was counted)) q
+  pub to_locked : (v w : V) → v.post ≡ at_heap n (leaf - 1) → ComesTo v w (with_node hunt_nodes v.post (guard leaf was counted)) → w.post ≡ locked
+  to_locked v w q t = t.post ∙ ap (λ (p : Post HuntPart). with_node hunt_nodes p (guard leaf was counted)) q
 
   pub to_sized : (v w : V) → v.post ≡ locked → w ≡ with_post v (sizing v.post leaf) → w.post ≡ sized
   to_sized v w q t = ap (λ (z : V). z.post) t ∙ ap (λ (p : Post HuntPart). sizing p leaf) q
@@ -86,11 +89,11 @@ module _ (n leaf : ℕ) (e : Entry) (was word : ℕ) (counted : Node) where
   pub to_busy : (v w : V) → v.post ≡ sized → w ≡ with_post v (leafed v.post word e) → w.post ≡ busy
   to_busy v w q t = ap (λ (z : V). z.post) t ∙ ap (λ (p : Post HuntPart). leafed p word e) q
 
-  pub to_unheaped : (v w : V) → v.post ≡ busy → Holds v w (without_heap v.post) → w.post ≡ unheaped
+  pub to_unheaped : (v w : V) → v.post ≡ busy → ComesTo v w (without_heap v.post) → w.post ≡ unheaped
   to_unheaped v w q t = t.post ∙ ap without_heap q
 
-  pub to_flight : (v w : V) → v.post ≡ unheaped → Holds v w (without_node v.post leaf) → w.post ≡ in_flight n e leaf
-  to_flight v w q t = t.post ∙ (ap (λ (p : Post HuntPart). without_node p leaf) q ∙ leaf_taken)
+  pub to_flight : (v w : V) → v.post ≡ unheaped → ComesTo v w (without_node hunt_nodes v.post leaf) → w.post ≡ in_flight n e leaf
+  to_flight v w q t = t.post ∙ (ap (λ (p : Post HuntPart). without_node hunt_nodes p leaf) q ∙ leaf_taken)
 
   pub can_leaf : (v : V) → 1 ≤ leaf → v.post ≡ sized → CanLeaf v leaf
   can_leaf v low q = record {
@@ -113,11 +116,11 @@ module _ (n leaf : ℕ) (e : Entry) (was word : ℕ) (counted : Node) where
   pub leaf_held : (v : V) → v.post ≡ unheaped → Contains v.post.locks (lock_of leaf)
   leaf_held v q = subst (λ (l : List ℕ). Contains l (lock_of leaf)) (sym (ap (λ (p : Post HuntPart). p.locks) q ∙ locks_left)) (0, omega arith, refl)
 
-  pub leaf_freeable : (v : V) → Means (Busy n e) word → v.post ≡ unheaped → IsFreeable v leaf
+  pub leaf_freeable : (v : V) → Means (Busy n e) word → v.post ≡ unheaped → IsFreeable hunt_nodes v leaf
   leaf_freeable v means q = record {
     guard = guard leaf word (Busy n e);
     has = subst (λ (p : Post HuntPart). Contains p.own.guards (guard leaf word (Busy n e))) (sym q) (0, omega arith, refl);
     is = refl;
     means = means;
-    root = λ z. ap (λ (p : Post HuntPart). p.owed) q;
+    allowed = λ z. ap (λ (p : Post HuntPart). p.owed) q;
   }

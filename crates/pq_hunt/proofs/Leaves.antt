@@ -3,11 +3,8 @@ use Rattle.std.proofs.Common.{◌≡◌, ◌≢◌, ◌⊎◌, ℕ, ◌+◌, Boo
 use Rattle.std.specs.Prelude.{Contains}
 use Rattle.std.specs.List.{sum_by}
 use Rattle.std.proofs.lemmas.Bool.Decides.{eqb_tells}
-use mathlib.Core.Option.{some}
-use lib.ListN.{get_elem?}
 use native.Mathlib.Decide.{ℕ_discrete}
 use mathlib.Core.Logic.{dite}
-use Rattle.atomic_table.proofs.Lists.{at_set}
 use Rattle.pq_model.specs.History.{left}
 use Rattle.pq_seats.specs.declared.views.Limits.{Limits}
 use Rattle.pq_seats.specs.declared.views.Post.{Post}
@@ -19,10 +16,11 @@ use Rattle.pq_seats.proofs.Lists.{in_cases, in_later, not_in, test_same, test_ot
 use Rattle.pq_seats.proofs.Marks.{owed_count-cons}
 use Rattle.pq_seats.proofs.Leaving.{one_letter, sum_of_one}
 use Rattle.pq_hunt.specs.declared.views.HuntPart.{HuntPart}
-use Rattle.pq_hunt.specs.Ties.{kind, locks_in, words_in}
 use Rattle.pq_hunt.specs.Rules.{hunt_rule}
-use Rattle.pq_hunt.specs.LawsHold.Frames.{guarded_on, same_locks, same_words}
-use Rattle.pq_hunt.proofs.Changes.{ps, pat, changed}
+use Rattle.pq_nodes.proofs.Keeping.{frame_keeps}
+use Rattle.pq_nodes.proofs.Tables.{same_locks, same_words}
+use Rattle.pq_hunt.specs.LawsHold.Changes.{ps, pat, changed}
+use Rattle.pq_hunt.specs.NodeParts.{hunt_nodes}
 
 -- what is left where the letters for one owner are gone
 without_if : (b : Bool) (x : ℕ × ℕ) (rest : List (ℕ × ℕ)) (y : ℕ × ℕ) → Contains (cond b rest (x ∷ rest)) y → (x ≡ y) ⊎ Contains rest y
@@ -77,16 +75,10 @@ may_leave k id v owner letter has s h at empty =
       size = t.size;
       of = t.of;
       nodes = t.nodes;
-      guarded = guarded_on kind (locks_in s.words) (locks_in ws) (words_in s.words) (words_in ws) qs (set qs id p') t.nodes
-          (same_locks s.words owner letter (omega arith)) (same_words s.words owner letter (omega arith))
-          (λ j q g to has_g. ⊎_elim
-          (λ e. (v.post, subst (λ (z : ℕ). get_elem? qs z ≡ some v.post) (sym e.0) here, subst (λ (z : Post HuntPart). Contains z.own.guards g) (sym e.1) has_g))
-          (λ a. (q, a.1, has_g)) (at_set qs id j p' q to))
-          t.guarded;
+      tree = frame_keeps hunt_nodes s.words qs t.nodes t.tree id v.post here ws p'
+          (same_locks s.words owner letter (omega arith)) (same_words s.words owner letter (omega arith)) refl (λ i held. held)
+          (λ i held. held);
       facts = t.facts;
-      holds = λ g has_g. t.holds id v.post g here has_g;
-      named = λ j locked. t.named id v.post j here locked;
-      apart = t.apart id v.post here;
       sizes = record {
         free = λ e. size ∙ t.free (sym lock ∙ e);
         mine = λ locked. let old = t.held id v.post here locked in (old.0, size ∙ old.1);

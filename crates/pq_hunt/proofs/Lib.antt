@@ -10,9 +10,7 @@ pub mod Plain
 pub mod Events
 pub mod Told
 pub mod Meanings
-pub mod Changes
 pub mod Locking
-pub mod Guarding
 pub mod Stores
 pub mod Looks
 pub mod Draws

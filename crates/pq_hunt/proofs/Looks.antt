@@ -7,7 +7,6 @@ use mathlib.Core.Option.{some}
 use lib.ListN.{get_elem?}
 use native.Mathlib.Decide.{ℕ_discrete}
 use mathlib.Core.Logic.{dite}
-use Rattle.atomic_table.proofs.Lists.{at_set}
 use Rattle.pq_words.specs.declared.entries.Entry.{Entry}
 use Rattle.pq_model.specs.History.{left}
 use Rattle.pq_seats.specs.declared.views.Limits.{Limits}
@@ -16,20 +15,22 @@ use Rattle.pq_seats.specs.declared.views.View.{View}
 use Rattle.pq_seats.specs.Letters.{owed_count, letter_count}
 use Rattle.pq_seats.specs.Rules.{Table, Holds}
 use Rattle.pq_seats.proofs.Lists.{same_at, sum_kept}
-use Rattle.pq_nodes.proofs.Locks.{counted_is}
 use Rattle.pq_hunt.specs.declared.nodes.Node.TheVariants.{Busy}
 use Rattle.pq_hunt.specs.Nodes.{node}
 use Rattle.pq_hunt.specs.Flights.{Flight, looking_at}
 use Rattle.pq_hunt.specs.Facts.{HeapFacts}
 use Rattle.pq_hunt.proofs.Events.{event_look, event_lost}
-use Rattle.pq_hunt.specs.declared.views.Guard.{Guard}
+use Rattle.pq_hunt.specs.Guards.{Guard}
 use Rattle.pq_hunt.specs.declared.views.HuntPart.{HuntPart}
-use Rattle.pq_hunt.specs.Layout.{heap_lock, size_word, lock_of}
-use Rattle.pq_hunt.specs.Ties.{kind, locks_in, words_in, IsApart, HuntTied}
+use Rattle.pq_nodes.specs.Layout.{lock_of}
+use Rattle.pq_hunt.specs.Layout.{heap_lock, size_word}
+use Rattle.pq_hunt.specs.Ties.{HuntTied}
 use Rattle.pq_hunt.specs.Rules.{hunt_rule}
-use Rattle.pq_hunt.specs.LawsHold.Frames.{guarded_on, same_locks, same_words}
-use Rattle.pq_hunt.proofs.Changes.{ps, pat, changed, Inserts, IsSteady, steady_inserts, steady_letters}
+use Rattle.pq_nodes.proofs.Keeping.{guard_counts, frame_keeps}
+use Rattle.pq_nodes.proofs.Tables.{same_locks, same_words}
+use Rattle.pq_hunt.specs.LawsHold.Changes.{ps, pat, changed, Inserts, IsSteady, steady_inserts, steady_letters}
 use Rattle.pq_hunt.proofs.Stores.{with_flight, with_flight_is}
+use Rattle.pq_hunt.specs.NodeParts.{hunt_nodes}
 
 -- nobody owes anything
 none_owed : (n : ℕ) (posts : List (Post HuntPart)) → ((j : ℕ) (p : Post HuntPart) → get_elem? posts j ≡ some p → p.owed ≡ [])
@@ -47,12 +48,6 @@ module _ (k : Limits) (s : Table HuntPart) (h : Holds hunt_rule k s) (id : ℕ) 
 
   abbrev here : get_elem? qs id ≡ some v.post
   here = pat k s h id v at
-
-  same_guards : (p' : Post HuntPart) → p'.own.guards ≡ v.post.own.guards → (j : ℕ) (q : Post HuntPart) (g : Guard) → get_elem? (set qs id p') j ≡ some q → Contains q.own.guards g
-      → (p : Post HuntPart) × (get_elem? qs j ≡ some p) × Contains p.own.guards g
-  same_guards p' same j q g to has = ⊎_elim
-      (λ e. (v.post, subst (λ (z : ℕ). get_elem? qs z ≡ some v.post) (sym e.0) here, subst (λ (l : List Guard). Contains l g) same (subst (λ (z : Post HuntPart). Contains z.own.guards g) (sym e.1) has)))
-      (λ a. (q, a.1, has)) (at_set qs id j p' q to)
 
   -- the post of a seat that stored the size
   abbrev pub sizing : ℕ → Post HuntPart
@@ -72,12 +67,9 @@ module _ (k : Limits) (s : Table HuntPart) (h : Holds hunt_rule k s) (id : ℕ) 
         size = t.size;
         of = t.of;
         nodes = t.nodes;
-        guarded = guarded_on kind (locks_in s.words) (locks_in ws) (words_in s.words) (words_in ws) qs (set qs id p') t.nodes
-            (same_locks s.words 25 x (omega arith)) (same_words s.words 25 x (omega arith)) (same_guards p' refl) t.guarded;
+        tree = frame_keeps hunt_nodes s.words qs t.nodes t.tree id v.post here ws p' (same_locks s.words 25 x (omega arith))
+            (same_words s.words 25 x (omega arith)) refl (λ i has. has) (λ i has. has);
         facts = t.facts;
-        holds = λ g has. t.holds id v.post g here has;
-        named = λ j has. t.named id v.post j here has;
-        apart = t.apart id v.post here;
         sizes = record {
           free = λ e. absurd (some_number (sym is_mine ∙ (sym lock ∙ e)));
           mine = λ has. ((t.held id v.post here has).0, get_or-set_same s.words 25 x 0 (omega arith));
@@ -99,11 +91,10 @@ module _ (k : Limits) (s : Table HuntPart) (h : Holds hunt_rule k s) (id : ℕ) 
         size = t.size;
         of = of';
         nodes = t.nodes;
-        guarded = guarded_on kind (locks_in s.words) (locks_in s.words) (words_in s.words) (words_in s.words) qs (set qs id p') t.nodes (λ i. refl) (λ i. refl) (same_guards p' guards) t.guarded;
+        tree = frame_keeps hunt_nodes s.words qs t.nodes t.tree id v.post here s.words p' (λ i. refl) (λ i. refl) guards
+            (λ i has. subst (λ (z : List ℕ). Contains z (lock_of i)) (sym locks) has)
+            (λ i has. subst (λ (z : List ℕ). Contains z (lock_of i)) locks has);
         facts = facts;
-        holds = λ g has. subst (λ (z : List ℕ). Contains z (lock_of g.node)) (sym locks) (t.holds id v.post g here (subst (λ (l : List Guard). Contains l g) guards has));
-        named = λ j has. let old = t.named id v.post j here (subst (λ (z : List ℕ). Contains z (lock_of j)) locks has) in (old.0, subst (λ (l : List Guard). Contains l old.0) (sym guards) old.1, old.2);
-        apart = subst IsApart (sym guards) (t.apart id v.post here);
         sizes = record {
           free = t.free;
           mine = λ has. let old = t.held id v.post here (subst (λ (z : List ℕ). Contains z heap_lock) locks has) in (counted ∙ old.0, old.1 ∙ sym stored);
@@ -134,7 +125,7 @@ module _ (k : Limits) (s : Table HuntPart) (h : Holds hunt_rule k s) (id : ℕ) 
       let p' : Post HuntPart = looking in let n : ℕ = v.post.number in
       let old = t.told id v.post here positive in
       let at_place : (t.of n).place ≡ g.node = old.place climbing ∙ place in
-      let counted : node t.nodes g.node ≡ g.counted = counted_is kind (locks_in s.words) (words_in s.words) qs t.nodes id v.post g t.guarded here has in
+      let counted : node t.nodes g.node ≡ g.counted = guard_counts hunt_nodes s.words qs t.nodes t.tree id v.post here g has in
       let new : Flight = looking_at (t.of n) ((t.of n).place / 2) in
       let of' : ℕ → Flight = with_flight t.of n new in let other = with_flight_is t.of n new in
       let facts = event_look k.seats k.capacity t.size t.of of' t.nodes (left h.history) n t.facts
@@ -166,10 +157,10 @@ module _ (k : Limits) (s : Table HuntPart) (h : Holds hunt_rule k s) (id : ℕ) 
   finds_gone g has root place climbing positive owed gone =
       let p' : Post HuntPart = told_of in let n : ℕ = v.post.number in
       let old = t.told id v.post here positive in
-      let counted : node t.nodes g.node ≡ g.counted = counted_is kind (locks_in s.words) (words_in s.words) qs t.nodes id v.post g t.guarded here has in
+      let counted : node t.nodes g.node ≡ g.counted = guard_counts hunt_nodes s.words qs t.nodes t.tree id v.post here g has in
       let none_waits = event_lost k.seats k.capacity t.size t.of t.nodes (left h.history) n t.facts (old.place climbing ∙ place)
       (λ e is. gone e (sym counted ∙ (ap (node t.nodes) root ∙ is))) in
-      let none_owe = none_owed n qs (λ j p to. ⊎_elim (λ e. e) (λ r. let same : j ≡ id = t.guarded.view j id p v.post r.0 g to here r.1 has (r.2 ∙ sym root) in
+      let none_owe = none_owed n qs (λ j p to. ⊎_elim (λ e. e) (λ r. let same : j ≡ id = t.tree.guarded.view j id p v.post r.0 g to here r.1 has (r.2 ∙ sym root) in
       let is : p ≡ v.post = same_at qs id p v.post (subst (λ (z : ℕ). get_elem? qs z ≡ some p) same to) here in ap (λ (z : Post HuntPart). z.owed) is ∙ owed) (t.owing j p to)) in
       let told_all = old.told.told in
       view_change p' t.of refl refl refl refl refl refl t.facts

@@ -9,7 +9,7 @@ use Rattle.pq_seats.specs.declared.views.View.{View}
 use Rattle.pq_seats.specs.Batches.{marks_of}
 use Rattle.pq_seats.specs.Allowed.{Places, MayDraw}
 use Rattle.pq_hunt.specs.declared.nodes.Node.TheVariants.{Available, Busy}
-use Rattle.pq_hunt.specs.declared.views.Guard.{Guard}
+use Rattle.pq_hunt.specs.Guards.{Guard}
 use Rattle.pq_hunt.specs.declared.views.HuntPart.{HuntPart}
 use Rattle.pq_hunt.specs.Layout.{heap_lock}
 use Rattle.pq_hunt.specs.Batches.{insertion, after_insert}

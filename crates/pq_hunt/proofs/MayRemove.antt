@@ -15,7 +15,7 @@ use Rattle.pq_seats.specs.Rules.{Table, Holds, Stands}
 use Rattle.pq_seats.specs.Allowed.{Places, MayDraw}
 use Rattle.pq_hunt.specs.Marks.{IsRemoval, MayGet}
 use Rattle.pq_hunt.specs.Order.{HasWord}
-use Rattle.pq_hunt.specs.declared.views.Guard.{Guard}
+use Rattle.pq_hunt.specs.Guards.{Guard}
 use Rattle.pq_hunt.specs.declared.views.HuntPart.{HuntPart}
 use Rattle.pq_hunt.specs.Layout.{heap_lock}
 use Rattle.pq_hunt.specs.Views.{with_guards}

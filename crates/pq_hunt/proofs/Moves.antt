@@ -1,5 +1,5 @@
 -- The heap's own steps are allowed.
-use Rattle.std.proofs.Common.{◌≡◌, ◌≢◌, Some, None, ℕ, ◌+◌, ◌-◌, ◌*◌, ◌/◌, ◌<◌, ◌≤◌, Bool, true, false, List, [], ◌∷◌, map, length, get_or, set, inl, inr, ⊎_elim, refl, sym, ap, ◌∙◌, subst, arith}
+use Rattle.std.proofs.Common.{◌≡◌, ◌≢◌, Some, None, ℕ, ◌+◌, ◌-◌, ◌*◌, ◌/◌, ◌<◌, ◌≤◌, false, List, [], ◌∷◌, map, length, get_or, set, inl, inr, ⊎_elim, refl, sym, ap, ◌∙◌, subst, arith}
 use Rattle.std.specs.Prelude.{Contains}
 use Rattle.std.proofs.lemmas.List.{set-get_or}
 use mathlib.Core.Option.{some, none}
@@ -18,11 +18,10 @@ use Rattle.pq_seats.specs.Rules.{Table, Holds}
 use Rattle.pq_seats.specs.Allowed.{IsOwnChange}
 use Rattle.pq_seats.proofs.Keeps.{untouched}
 use Rattle.pq_seats.proofs.Owning.{own_stays}
-use Rattle.pq_seats.proofs.Lengths.{few_marks}
 use Rattle.pq_api.specs.Limits.{call_limit}
 use Rattle.pq_hunt.specs.declared.nodes.Node.{Node}
 use Rattle.pq_hunt.specs.declared.nodes.Node.TheVariants.{Empty, Available, Busy, Hole}
-use Rattle.pq_hunt.specs.Nodes.{node, used}
+use Rattle.pq_hunt.specs.Nodes.{node}
 use Rattle.pq_hunt.specs.Order.{HasWord, MayStandOver}
 use Rattle.pq_hunt.specs.Words.{Means, node_with, node_of}
 use Rattle.pq_hunt.specs.Batches.{entry_at}
@@ -33,30 +32,22 @@ use Rattle.pq_words.specs.declared.heap_words.Tag.TheVariants as tags
 use Rattle.pq_words.specs.declared.heap_words.HeapWord.{HeapWord}
 use Rattle.pq_words.specs.HeapWords.{heap_number}
 use Rattle.std.specs.Prelude.{Option}
-use Rattle.pq_hunt.specs.declared.views.Guard.{Guard}
+use Rattle.pq_hunt.specs.Guards.{Guard}
 use Rattle.pq_hunt.specs.declared.views.HuntPart.{HuntPart}
-use Rattle.pq_hunt.specs.Layout.{heap_lock, size_word, word_of, is_lock}
-use Rattle.pq_hunt.specs.Views.{restored, exchanged, exchanged_third, refilled}
+use Rattle.pq_nodes.specs.Layout.{word_of}
+use Rattle.pq_hunt.specs.Layout.{heap_lock, size_word, is_lock}
+use Rattle.pq_nodes.specs.Views.{exchanged, exchanged_third, refilled}
 use Rattle.pq_hunt.specs.Ties.{HuntTied}
 use Rattle.pq_hunt.specs.Rules.{hunt_rule}
 use Rattle.pq_hunt.specs.Steps as steps
-use Rattle.pq_hunt.proofs.Flown.{one_busy}
 use Rattle.pq_hunt.specs.Passes.{MayStand}
-use Rattle.pq_hunt.specs.LawsHold.{hunt_laws, lock_cases}
-use Rattle.pq_hunt.proofs.Changes.{pat}
+use Rattle.pq_hunt.specs.LawsHold.{hunt_laws}
+use Rattle.pq_hunt.specs.LawsHold.Locks.{word_is_no_lock, size_is_no_lock}
+use Rattle.pq_hunt.specs.LawsHold.Changes.{pat}
 use Rattle.pq_hunt.proofs.Stores as stores
 use Rattle.pq_hunt.proofs.Looks as looks
-
-false_by : (b : Bool) → (b ≡ true → ⊥) → b ≡ false
-false_by true never = absurd (never refl)
-false_by false never = refl
-
--- the word of a node, and the size, are no locks
-pub word_is_no_lock : (c i : ℕ) → is_lock c (word_of i) ≡ false
-word_is_no_lock c i = false_by (is_lock c (word_of i)) (λ is. ⊎_elim (λ e. omega arith) (λ r. let even = r.2 in omega arith) (lock_cases c (word_of i) is))
-
-pub size_is_no_lock : (c : ℕ) → is_lock c size_word ≡ false
-size_is_no_lock c = false_by (is_lock c size_word) (λ is. ⊎_elim (λ e. omega arith) (λ r. let far = r.0 in omega arith) (lock_cases c size_word is))
+use Rattle.pq_hunt.specs.NodeParts.{hunt_nodes}
+use Rattle.pq_nodes.specs.Parts.{guarding}
 
 abbrev owner_at : Node → ℕ
 owner_at Empty = 0
@@ -100,28 +91,6 @@ module _ (k : Limits) where
   loads_rule s h id v p i at seated far no_lock own tied = keeps_rule s h id v p i (get_or s.words i 0) at seated far no_lock own
       (subst (λ (z : List ℕ). HuntTied k z (set (map post_of s.views) id p) (left h.history)) (sym (set-get_or s.words i 0)) tied)
 
-  -- an owner has one Busy node
-  owners_apart : (s : St) (h : Holds hunt_rule k s) (id : ℕ) (v : View HuntPart) → get_elem? s.views id ≡ some v → steps.HaveOwnersApart v.post.own.guards
-  owners_apart s h id v at g f o e d has_g has_f busy_g busy_f =
-      let t = h.tied in let here = pat k s h id v at in
-      let at_g = (t.guarded.held id v.post g here has_g).counted ∙ busy_g in let at_f = (t.guarded.held id v.post f here has_f).counted ∙ busy_f in
-      one_busy o d e g.node f.node t.size t.nodes t.facts.shape (let once = t.facts.flown.once o in let most = t.facts.flown.most o in omega arith) at_f at_g
-
-  -- none of the nodes up to the size is Empty
-  none_empty : (s : St) (h : Holds hunt_rule k s) (id : ℕ) (v : View HuntPart) → get_elem? s.views id ≡ some v → steps.AreUsed v.post
-  none_empty s h id v at locked g has low high =
-      let t = h.tied in let here = pat k s h id v at in let size = (t.held id v.post here locked).0 in
-      ap used (sym (t.guarded.held id v.post g here has).counted) ∙ t.facts.shape.filled g.node low (omega arith)
-
-  pub may_look : (slots id : ℕ) (me : Me (Unit {0}) (View HuntPart)) (i : ℕ) → me.1 ≡ [] → Allows (Holds hunt_rule k) slots id me (word_of i) (λ n. n) (steps.looks (step slots (word_of i) 0 0 none) me)
-  may_look slots id me i empty s h sized at small = (
-    me.0,
-    keeps,
-    tt,
-    untouched hunt_rule k s h id me.0 (word_of i) at,
-    (refl, (λ g has is. ap (λ (z : ℕ). get_or s.words z 0) (sym is) ∙ (h.tied.guarded.held id me.0.post g (pat k s h id me.0 at) has).stored), owners_apart s h id me.0 at, none_empty s h id me.0 at),
-  )
-
   pub may_look_at_size : (slots id : ℕ) (me : Me (Unit {0}) (View HuntPart)) → me.1 ≡ [] → Contains me.0.post.locks heap_lock
       → Allows (Holds hunt_rule k) slots id me size_word (λ n. n) (steps.looks_at_size (step slots size_word 0 0 none) me)
   may_look_at_size slots id me empty locked s h sized at small =
@@ -135,16 +104,6 @@ module _ (k : Limits) where
     tt,
     keeps_rule s h id v (steps.sizing v.post x) size_word x at seated (omega arith) (size_is_no_lock k.capacity) (own_change v _) (looks.stores_size k s h id v at x locked),
     refl,
-  )
-
-  pub may_store : (slots id : ℕ) (me : Me (Unit {0}) (View HuntPart)) (g : Guard) (x : ℕ) → me.0.post.number ≢ 0 → Contains me.0.post.own.guards g
-      → Allows (Holds hunt_rule k) slots id me (word_of g.node) (λ _. x) (λ _. steps.stores (step slots (word_of g.node) x 0 none) me x)
-  may_store slots id me g x seated has s h sized at small = let v = me.0 in let p = steps.guarding v.post (restored (word_of g.node) x v.post.own.guards) in (
-    with_post v p,
-    keeps,
-    tt,
-    keeps_rule s h id v p (word_of g.node) x at seated (omega arith) (word_is_no_lock k.capacity g.node) (own_change v _) (stores.stores_word k s h id v at g x has),
-    (refl, let front = (h.each id v at).front in let most = few_marks hunt_rule k s h in omega arith),
   )
 
   pub may_leaf : (slots id : ℕ) (me : Me (Unit {0}) (View HuntPart)) (g : Guard) (gs : List Guard) (x : ℕ) (e : Entry) → me.0.post.own.guards ≡ g ∷ gs → Contains me.0.post.locks heap_lock → 0 < me.0.post.number
@@ -188,7 +147,7 @@ module _ (k : Limits) where
   stands : (s : St) (h : Holds hunt_rule k s) (id : ℕ) (v : View HuntPart) (at : get_elem? s.views id ≡ some v) (i : ℕ) (e : Entry) → MayStand k.capacity v.post.own i e → MayStandOver e (node h.tied.nodes i)
   stands s h id v at i e may = ⊎_elim
       (λ far. may_empty h.tied.nodes e i (let t = h.tied in let within = t.facts.shape.within in let long = t.facts.long in t.facts.shape.clear i (omega arith)))
-      (λ g. let counted = (h.tied.guarded.held id v.post g.0 (pat k s h id v at) g.1).counted in
+      (λ g. let counted = (h.tied.tree.guarded.held id v.post g.0 (pat k s h id v at) g.1).counted in
       subst (λ (z : Node). MayStandOver e z) (sym (ap (node h.tied.nodes) (sym g.2) ∙ counted)) g.3)
       may
 
@@ -196,7 +155,7 @@ module _ (k : Limits) where
       → g.counted ≡ Hole x → f.node / 2 ≡ g.node → f.node + d ≡ 4 * g.node + 1 → HasWord f.counted e → raw_of e ≤ raw_of x → MayStand k.capacity me.0.post.own d e
       → Allows (Holds hunt_rule k) slots id me (word_of g.node) (λ _. word) (λ _. steps.sifts (step slots (word_of g.node) word 0 none) me word)
   may_sift slots id me g f gs d x e word guards is_word seated hole child pair has_word under may s h sized at small =
-      let v = me.0 in let p : Post HuntPart = steps.guarding v.post (exchanged v.post.own.guards) in (
+      let v = me.0 in let p : Post HuntPart = guarding hunt_nodes v.post (exchanged v.post.own.guards) in (
         with_post v p,
         keeps,
         tt,
@@ -210,7 +169,7 @@ module _ (k : Limits) where
       → g.counted ≡ Hole x → f.node / 2 ≡ g.node → f.node + d ≡ 4 * g.node + 1 → HasWord f.counted e → raw_of e ≤ raw_of x → MayStand k.capacity me.0.post.own d e
       → Allows (Holds hunt_rule k) slots id me (word_of g.node) (λ _. word) (λ _. steps.sifts_third (step slots (word_of g.node) word 0 none) me word)
   may_sift_third slots id me g b f gs d x e word guards is_word seated hole child pair has_word under may s h sized at small =
-      let v = me.0 in let p : Post HuntPart = steps.guarding v.post (exchanged_third v.post.own.guards) in (
+      let v = me.0 in let p : Post HuntPart = guarding hunt_nodes v.post (exchanged_third v.post.own.guards) in (
         with_post v p,
         keeps,
         tt,
@@ -224,13 +183,13 @@ module _ (k : Limits) where
       → g.counted ≡ Hole x → MayStand k.capacity me.0.post.own (2 * g.node) x → MayStand k.capacity me.0.post.own (2 * g.node + 1) x
       → Allows (Holds hunt_rule k) slots id me (word_of g.node) (λ _. word) (λ _. steps.fills (step slots (word_of g.node) word 0 none) me word)
   may_fill slots id me g gs x word guards seated hole left_may right_may s h sized at small =
-      let v = me.0 in let p : Post HuntPart = steps.guarding v.post (refilled word (Available (steps.first_entry v.post.own.guards)) v.post.own.guards) in
+      let v = me.0 in let p : Post HuntPart = guarding hunt_nodes v.post (refilled word (Available (steps.first_entry v.post.own.guards)) v.post.own.guards) in
       let entry : x ≡ steps.first_entry v.post.own.guards = ap entry_at (sym hole) ∙ ap steps.first_entry (sym guards) in (
         with_post v p,
         keeps,
         tt,
         keeps_rule s h id v p (word_of g.node) word at seated (omega arith) (word_is_no_lock k.capacity g.node) (own_change v _)
-            (subst (λ (z : Entry). HuntTied k (set s.words (word_of g.node) word) (set (map post_of s.views) id (steps.guarding v.post (refilled word (Available z) v.post.own.guards))) (left h.history)) entry
+            (subst (λ (z : Entry). HuntTied k (set s.words (word_of g.node) word) (set (map post_of s.views) id (guarding hunt_nodes v.post (refilled word (Available z) v.post.own.guards))) (left h.history)) entry
             (stores.fills k s h id v at g gs word x guards hole (stands s h id v at (2 * g.node) x left_may) (stands s h id v at (2 * g.node + 1) x right_may))),
         refl,
       )
@@ -244,7 +203,7 @@ module _ (k : Limits) where
       → v.post.flight ≡ Some e → g.counted ≡ Busy v.post.number f → f ≡ e
   own_entry s h id v at g e f has climbing positive flies is =
       let t = h.tied in let here = pat k s h id v at in
-      let counted = (t.guarded.held id v.post g here has).counted in
+      let counted = (t.tree.guarded.held id v.post g here has).counted in
       let told = (t.told id v.post here positive).flies climbing in
       t.facts.flown.entry g.node v.post.number f (counted ∙ is) ∙ (told.2 ∙ same_flight v.post.flight told.0 e told.1 flies)
 
@@ -253,7 +212,7 @@ module _ (k : Limits) where
       → Allows (Holds hunt_rule k) slots id me (word_of g.node) (λ n. n) (steps.finds (step slots (word_of g.node) 0 0 none) me)
   may_find slots id me g e has means place climbing positive flies s h sized at small =
       let v = me.0 in let n : ℕ = v.post.number in let t = h.tied in
-      let stored = (t.guarded.held id v.post g (pat k s h id v at) has).stored in
+      let stored = (t.tree.guarded.held id v.post g (pat k s h id v at) has).stored in
       let found : ℕ = get_or s.words (word_of g.node) 0 in
       dite (ℕ_discrete found (steps.busy_number n e))
       (λ mine. (
@@ -262,7 +221,7 @@ module _ (k : Limits) where
         tt,
         untouched hunt_rule k s h id v (word_of g.node) at,
         (
-          λ g' has' is'. ap (λ (z : ℕ). get_or s.words z 0) (sym is') ∙ (t.guarded.held id v.post g' (pat k s h id v at) has').stored,
+          λ g' has' is'. ap (λ (z : ℕ). get_or s.words z 0) (sym is') ∙ (t.tree.guarded.held id v.post g' (pat k s h id v at) has').stored,
           λ f flies_f. ((λ is. refl), λ other. absurd (other (mine ∙ ap (λ (z : Entry). steps.busy_number n z) (same_flight v.post.flight e f flies flies_f)))),
         ),
       ))
@@ -274,7 +233,7 @@ module _ (k : Limits) where
             (looks.looks_up k s h id v at g has place climbing positive (λ f is. not_mine n found e f g.counted (subst (Means g.counted) (sym stored) means) other
             (own_entry s h id v at g e f has climbing positive flies is) is)),
         (
-          λ g' has' is'. ap (λ (z : ℕ). get_or s.words z 0) (sym is') ∙ (t.guarded.held id v.post g' (pat k s h id v at) has').stored,
+          λ g' has' is'. ap (λ (z : ℕ). get_or s.words z 0) (sym is') ∙ (t.tree.guarded.held id v.post g' (pat k s h id v at) has').stored,
           λ f flies_f. ((λ is. absurd (other (is ∙ ap (λ (z : Entry). steps.busy_number n z) (sym (same_flight v.post.flight e f flies flies_f))))), λ q. refl),
         ),
       ))
@@ -284,7 +243,7 @@ module _ (k : Limits) where
       → Allows (Holds hunt_rule k) slots id me (word_of g.node) (λ n. n) (steps.finds_at_root (step slots (word_of g.node) 0 0 none) me)
   may_find_at_root slots id me g e has means root place climbing positive owed flies s h sized at small =
       let v = me.0 in let n : ℕ = v.post.number in let t = h.tied in
-      let stored = (t.guarded.held id v.post g (pat k s h id v at) has).stored in
+      let stored = (t.tree.guarded.held id v.post g (pat k s h id v at) has).stored in
       let found : ℕ = get_or s.words (word_of g.node) 0 in
       dite (ℕ_discrete found (steps.busy_number n e))
       (λ mine. (
@@ -293,7 +252,7 @@ module _ (k : Limits) where
         tt,
         untouched hunt_rule k s h id v (word_of g.node) at,
         (
-          λ g' has' is'. ap (λ (z : ℕ). get_or s.words z 0) (sym is') ∙ (t.guarded.held id v.post g' (pat k s h id v at) has').stored,
+          λ g' has' is'. ap (λ (z : ℕ). get_or s.words z 0) (sym is') ∙ (t.tree.guarded.held id v.post g' (pat k s h id v at) has').stored,
           λ f flies_f. ((λ is. refl), λ other. absurd (other (mine ∙ ap (λ (z : Entry). steps.busy_number n z) (same_flight v.post.flight e f flies flies_f)))),
         ),
       ))
@@ -305,7 +264,7 @@ module _ (k : Limits) where
             (looks.finds_gone k s h id v at g has root place climbing positive owed (λ f is. not_mine n found e f g.counted (subst (Means g.counted) (sym stored) means) other
             (own_entry s h id v at g e f has climbing positive flies is) is)),
         (
-          λ g' has' is'. ap (λ (z : ℕ). get_or s.words z 0) (sym is') ∙ (t.guarded.held id v.post g' (pat k s h id v at) has').stored,
+          λ g' has' is'. ap (λ (z : ℕ). get_or s.words z 0) (sym is') ∙ (t.tree.guarded.held id v.post g' (pat k s h id v at) has').stored,
           λ f flies_f. ((λ is. absurd (other (is ∙ ap (λ (z : Entry). steps.busy_number n z) (sym (same_flight v.post.flight e f flies flies_f))))), λ q. refl),
         ),
       ))

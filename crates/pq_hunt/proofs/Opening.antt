@@ -13,15 +13,18 @@ use Rattle.pq_seats.specs.Seats.{limits_for, Begins}
 use Rattle.pq_seats.proofs.Lists.{not_in}
 use Rattle.pq_hunt.specs.declared.nodes.Node.{Node}
 use Rattle.pq_hunt.specs.declared.nodes.Node.TheVariants.{Empty}
-use Rattle.pq_hunt.specs.declared.views.Guard.{Guard}
+use Rattle.pq_hunt.specs.Guards.{Guard}
 use Rattle.pq_hunt.specs.declared.views.HuntPart.{HuntPart}
-use Rattle.pq_hunt.specs.Layout.{heap_lock, size_word, lock_of, word_of, word_count}
+use Rattle.pq_nodes.specs.Layout.{lock_of, word_of}
+use Rattle.pq_hunt.specs.Layout.{heap_lock, size_word, word_count}
 use Rattle.pq_hunt.specs.Words.{Means}
 use Rattle.pq_hunt.specs.Views.{idle}
 use Rattle.pq_hunt.specs.Flights.{Flight, flight}
-use Rattle.pq_hunt.specs.Ties.{IsApart, HuntTied}
+use Rattle.pq_hunt.specs.Ties.{HuntTied}
 use Rattle.pq_hunt.specs.Rules.{hunt_rule}
 use Rattle.pq_hunt.proofs.Events.{event_open}
+use Rattle.pq_nodes.specs.Facts.{NamesNodes}
+use Rattle.pq_hunt.specs.NodeParts.{hunt_nodes}
 
 -- each element of a list of one thing, and what stands for those past its end
 alike : {A : Type 0} (n i : ℕ) (a : A) → get_or (replicate n a) i a ≡ a
@@ -71,19 +74,23 @@ module _ (capacity seats : ℕ) (words : List ℕ) (low : 1 ≤ seats) (high : s
     size = 0;
     of = still;
     nodes = empty;
-    guarded = record {
-      free = λ i lt unlocked. subst (λ (x : ℕ). Means (get_or empty i Empty) x) (sym (zeros (word_of i)))
-          (subst (λ (v : Node). Means v 0) (sym (alike (capacity + 1) i Empty)) zero_means);
-      held = λ j p g at has. absurd (no_guard j p g at has);
-      view = λ i j p q g h at to has there e. absurd (no_guard i p g at has);
-      once = λ j p g h at has there e. absurd (no_guard j p g at has);
+    tree = record {
+      guarded = record {
+        free = λ i lt unlocked. subst (λ (x : ℕ). Means (get_or empty i Empty) x) (sym (zeros (word_of i)))
+            (subst (λ (v : Node). Means v 0) (sym (alike (capacity + 1) i Empty)) zero_means);
+        held = λ j p g at has. absurd (no_guard j p g at has);
+        view = λ i j p q g h at to has there e. absurd (no_guard i p g at has);
+        once = λ j p g h at has there e. absurd (no_guard j p g at has);
+      };
+      names = λ j p at. subst (λ (q : Post HuntPart). NamesNodes hunt_nodes q) (only j p at) (record {
+        holds = λ g has. absurd (not_in g has);
+        named = λ i has. absurd (not_in (lock_of i) has);
+        apart = tt;
+      });
     };
     facts = event_open seats capacity still (λ n. refl);
     free = λ unlocked. zeros size_word;
     held = λ j p at has. absurd (not_in heap_lock (subst (λ (q : Post HuntPart). Contains q.locks heap_lock) (sym (only j p at)) has));
-    holds = λ j p g at has. absurd (no_guard j p g at has);
-    named = λ j p i at has. absurd (not_in (lock_of i) (subst (λ (q : Post HuntPart). Contains q.locks (lock_of i)) (sym (only j p at)) has));
-    apart = λ j p at. subst (λ (q : Post HuntPart). IsApart q.own.guards) (only j p at) tt;
     told = λ j p at positive. let n : 0 ≡ p.number = ap (λ (q : Post HuntPart). q.number) (only j p at) in absurd (omega arith);
     borne = λ n waits. absurd (omega arith);
     owing = λ j p at. inl (ap (λ (q : Post HuntPart). q.owed) (sym (only j p at)));

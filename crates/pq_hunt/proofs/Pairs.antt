@@ -12,15 +12,20 @@ use Rattle.pq_seats.specs.Allowed.{MayDraw}
 use Rattle.pq_model.specs.declared.marks.Act.TheVariants.{Insert}
 use Rattle.pq_hunt.specs.declared.nodes.Node.TheVariants.{Available, Busy}
 use Rattle.pq_hunt.specs.Words.{Means}
-use Rattle.pq_hunt.specs.declared.views.Guard.{Guard}
+use Rattle.pq_hunt.specs.Guards.{Guard}
 use Rattle.pq_hunt.specs.declared.views.HuntPart.{HuntPart}
-use Rattle.pq_hunt.specs.Layout.{lock_of, word_of}
-use Rattle.pq_hunt.specs.Views.{guard, idle, without_guard, restored}
+use Rattle.pq_nodes.specs.Layout.{lock_of, word_of}
+use Rattle.pq_nodes.specs.Views.{guard, without_guard, restored}
+use Rattle.pq_hunt.specs.Views.{idle}
 use Rattle.pq_hunt.specs.Batches.{insertion, after_insert}
 use Rattle.pq_hunt.specs.Rules.{hunt_rule}
-use Rattle.pq_hunt.specs.Steps.{guarding, climbed}
-use Rattle.pq_hunt.specs.Passes.{Holds, without_node, HoldsTwo, IsGuarded, CanClimb, in_flight, guarding_flight, post_with}
+use Rattle.pq_nodes.specs.Parts.{guarding}
+use Rattle.pq_hunt.specs.Steps.{climbed}
+use Rattle.pq_nodes.specs.Passes.{ComesTo, HoldsTwo}
+use Rattle.pq_nodes.specs.Parts.{without_node, HasGuard}
+use Rattle.pq_hunt.specs.Passes.{CanClimb, in_flight, guarding_flight, post_with}
 use Rattle.pq_hunt.proofs.MayDraw.{may_settle_below}
+use Rattle.pq_hunt.specs.NodeParts.{hunt_nodes}
 
 -- Two guards, of different nodes: both are freed, the second one first
 module _ (n : ℕ) (flight : Option Entry) (place climbing : ℕ) (g f : Guard) (differ : g.node ≢ f.node) where
@@ -44,7 +49,7 @@ module _ (n : ℕ) (flight : Option Entry) (place climbing : ℕ) (g f : Guard) 
   guards_then = ap (λ (b : Bool). cond {A = List Guard} b (without_guard (lock_of f.node) (f ∷ [])) (g ∷ without_guard (lock_of f.node) (f ∷ []))) other_lock
       ∙ ap (λ (b : Bool). g ∷ cond {A = List Guard} b [] (f ∷ [])) (same_lock f.node)
 
-  pub two_freed : without_node (without_node two f.node) g.node ≡ none_left
+  pub two_freed : without_node hunt_nodes (without_node hunt_nodes two f.node) g.node ≡ none_left
   two_freed = λ j. record {
     number = n;
     locks = (ap (λ (l : List ℕ). less (lock_of g.node) l) locks_then ∙ ap (λ (b : Bool). cond {A = List ℕ} b [] (lock_of g.node ∷ [])) (same_lock g.node)) j;
@@ -60,7 +65,7 @@ module _ (n : ℕ) (flight : Option Entry) (place climbing : ℕ) (g f : Guard) 
     };
   }
 
-  pub holds_two : (v : View HuntPart) → v.post ≡ two → Means g.counted g.stored → Means f.counted f.stored → HoldsTwo v g.node f.node
+  pub holds_two : (v : View HuntPart) → v.post ≡ two → Means g.counted g.stored → Means f.counted f.stored → HoldsTwo hunt_nodes v g.node f.node
   holds_two v q g_means f_means = record {
     differ = differ;
     first_held = subst (λ (p : Post HuntPart). Contains p.locks (lock_of g.node)) (sym q) (1, omega arith, refl);
@@ -70,14 +75,14 @@ module _ (n : ℕ) (flight : Option Entry) (place climbing : ℕ) (g f : Guard) 
       has = subst (λ (p : Post HuntPart). Contains p.own.guards g) (sym q) (0, omega arith, refl);
       is = refl;
       means = g_means;
-      root = λ z. ap (λ (p : Post HuntPart). p.owed) q;
+      allowed = λ z. ap (λ (p : Post HuntPart). p.owed) q;
     };
     second_freeable = record {
       guard = f;
       has = subst (λ (p : Post HuntPart). Contains p.own.guards f) (sym q) (1, omega arith, refl);
       is = refl;
       means = f_means;
-      root = λ z. ap (λ (p : Post HuntPart). p.owed) q;
+      allowed = λ z. ap (λ (p : Post HuntPart). p.owed) q;
     };
   }
 
@@ -131,18 +136,18 @@ module _ (n parent child above mine : ℕ) (e other : Entry) where
   pub to_risen : (v w : V) → v.post ≡ paired → w ≡ with_post v (climbed v.post) → w.post ≡ risen
   to_risen v w q t = ap (λ (z : V). z.post) t ∙ ap climbed q
 
-  pub second_guarded : (v : V) → v.post ≡ risen → IsGuarded v child
+  pub second_guarded : (v : V) → v.post ≡ risen → HasGuard hunt_nodes v child
   second_guarded v q = record { guard = guard child mine (Available other); has = subst (λ (p : P). Contains p.own.guards (guard child mine (Available other))) (sym q) (1, omega arith, refl); is = refl }
 
-  pub to_lowered : (v w : V) → parent ≢ child → v.post ≡ risen → w ≡ with_post v (guarding v.post (restored (word_of child) above v.post.own.guards)) → w.post ≡ lowered
-  to_lowered v w differ q t = ap (λ (z : V). z.post) t ∙ (ap (λ (p : P). guarding p (restored (word_of child) above p.own.guards)) q
-      ∙ ap (λ (l : List Guard). guarding risen l) (second_restored n (Some e) parent 1 (guard parent mine (Busy n e)) (guard child mine (Available other)) differ above))
+  pub to_lowered : (v w : V) → parent ≢ child → v.post ≡ risen → w ≡ with_post v (guarding hunt_nodes v.post (restored (word_of child) above v.post.own.guards)) → w.post ≡ lowered
+  to_lowered v w differ q t = ap (λ (z : V). z.post) t ∙ (ap (λ (p : P). guarding hunt_nodes p (restored (word_of child) above p.own.guards)) q
+      ∙ ap (λ (l : List Guard). guarding hunt_nodes risen l) (second_restored n (Some e) parent 1 (guard parent mine (Busy n e)) (guard child mine (Available other)) differ above))
 
-  pub lowered_held : (v : V) → parent ≢ child → Means (Busy n e) mine → Means (Available other) above → v.post ≡ lowered → HoldsTwo v parent child
+  pub lowered_held : (v : V) → parent ≢ child → Means (Busy n e) mine → Means (Available other) above → v.post ≡ lowered → HoldsTwo hunt_nodes v parent child
   lowered_held v differ busy available q = holds_two n (Some e) parent 1 (guard parent mine (Busy n e)) (guard child above (Available other)) differ v q busy available
 
-  pub to_parent : (v w : V) → parent ≢ child → v.post ≡ lowered → Holds v w (without_node (without_node v.post child) parent) → w.post ≡ in_flight n e parent
-  to_parent v w differ q t = t.post ∙ (ap (λ (p : P). without_node (without_node p child) parent) q
+  pub to_parent : (v w : V) → parent ≢ child → v.post ≡ lowered → ComesTo v w (without_node hunt_nodes (without_node hunt_nodes v.post child) parent) → w.post ≡ in_flight n e parent
+  to_parent v w differ q t = t.post ∙ (ap (λ (p : P). without_node hunt_nodes (without_node hunt_nodes p child) parent) q
       ∙ two_freed n (Some e) parent 1 (guard parent mine (Busy n e)) (guard child above (Available other)) differ)
 
   -- the insert is done
@@ -159,15 +164,15 @@ module _ (n parent child above mine : ℕ) (e other : Entry) where
   pub to_done : (first : ℕ) (p : P) → p ≡ paired → placed_post p (insertion p.own.climbing) (after_insert p.own.climbing p.own) first ≡ done
   to_done first p q = ap (λ (z : P). placed_post z (insertion z.own.climbing) (after_insert z.own.climbing z.own) first) q
 
-  pub done_guarded : (v : V) → v.post ≡ done → IsGuarded v child
+  pub done_guarded : (v : V) → v.post ≡ done → HasGuard hunt_nodes v child
   done_guarded v q = record { guard = guard child mine (Available e); has = subst (λ (p : P). Contains p.own.guards (guard child mine (Available e))) (sym q) (1, omega arith, refl); is = refl }
 
-  pub to_stored : (x : ℕ) (v w : V) → parent ≢ child → v.post ≡ done → w ≡ with_post v (guarding v.post (restored (word_of child) x v.post.own.guards)) → w.post ≡ stored_done x
-  to_stored x v w differ q t = ap (λ (z : V). z.post) t ∙ (ap (λ (p : P). guarding p (restored (word_of child) x p.own.guards)) q
-      ∙ ap (λ (l : List Guard). guarding done l) (second_restored n None 0 0 U (guard child mine (Available e)) differ x))
+  pub to_stored : (x : ℕ) (v w : V) → parent ≢ child → v.post ≡ done → w ≡ with_post v (guarding hunt_nodes v.post (restored (word_of child) x v.post.own.guards)) → w.post ≡ stored_done x
+  to_stored x v w differ q t = ap (λ (z : V). z.post) t ∙ (ap (λ (p : P). guarding hunt_nodes p (restored (word_of child) x p.own.guards)) q
+      ∙ ap (λ (l : List Guard). guarding hunt_nodes done l) (second_restored n None 0 0 U (guard child mine (Available e)) differ x))
 
-  pub done_held : (x : ℕ) (v : V) → parent ≢ child → Means (Available other) above → Means (Available e) x → v.post ≡ stored_done x → HoldsTwo v parent child
+  pub done_held : (x : ℕ) (v : V) → parent ≢ child → Means (Available other) above → Means (Available e) x → v.post ≡ stored_done x → HoldsTwo hunt_nodes v parent child
   done_held x v differ upper lower q = holds_two n None 0 0 U (guard child x (Available e)) differ v q upper lower
 
-  pub to_rest : (x : ℕ) (v w : V) → parent ≢ child → v.post ≡ stored_done x → Holds v w (without_node (without_node v.post child) parent) → w.post ≡ empty_post idle n
-  to_rest x v w differ q t = t.post ∙ (ap (λ (p : P). without_node (without_node p child) parent) q ∙ two_freed n None 0 0 U (guard child x (Available e)) differ)
+  pub to_rest : (x : ℕ) (v w : V) → parent ≢ child → v.post ≡ stored_done x → ComesTo v w (without_node hunt_nodes (without_node hunt_nodes v.post child) parent) → w.post ≡ empty_post idle n
+  to_rest x v w differ q t = t.post ∙ (ap (λ (p : P). without_node hunt_nodes (without_node hunt_nodes p child) parent) q ∙ two_freed n None 0 0 U (guard child x (Available e)) differ)

@@ -19,7 +19,7 @@ use Rattle.pq_seats.specs.Rules.{Table, Holds}
 use Rattle.pq_seats.specs.Allowed.{helps, Places}
 use Rattle.pq_seats.proofs.Lists.{test_same, test_other, in_first, in_later, not_in}
 use Rattle.pq_nodes.specs.Guards.{IsGuarded}
-use Rattle.pq_nodes.proofs.Locks.{guard_written, guards_written}
+use Rattle.pq_nodes.proofs.Guarded.{guard_written, guards_written}
 use Rattle.pq_hunt.specs.declared.nodes.Node.{Node}
 use Rattle.pq_hunt.specs.declared.nodes.Node.TheVariants.{Empty, Available, Busy, Hole}
 use Rattle.pq_hunt.specs.Nodes.{node, busy_of}
@@ -28,17 +28,23 @@ use Rattle.pq_hunt.specs.Flights.{Flight}
 use Rattle.pq_hunt.specs.Facts.{HeapFacts, StepsTo}
 use Rattle.pq_hunt.specs.Marks.{IsRemoval, MayGet, drawn_marks, last_marks, above_marks}
 use Rattle.pq_hunt.proofs.Events.{event_draw, event_draw_last, event_empty, event_above}
-use Rattle.pq_hunt.specs.declared.views.Guard.{Guard}
+use Rattle.pq_hunt.specs.Guards.{Guard}
 use Rattle.pq_hunt.specs.declared.views.HuntPart.{HuntPart}
 use Rattle.pq_hunt.specs.Layout.{heap_lock}
-use Rattle.pq_hunt.specs.Views.{guard, with_guards}
+use Rattle.pq_nodes.specs.Views.{guard}
+use Rattle.pq_hunt.specs.Views.{with_guards}
 use Rattle.pq_hunt.specs.Batches.{entry_at, flight_at, removal, settled, emptied, after_removal}
-use Rattle.pq_hunt.specs.Ties.{kind, locks_in, words_in, IsApart, HuntTied}
+use Rattle.pq_nodes.specs.Facts.{locks_in, words_in}
+use Rattle.pq_nodes.specs.Views.{IsApart}
+use Rattle.pq_hunt.specs.Ties.{HuntTied}
 use Rattle.pq_hunt.specs.Rules.{hunt_rule}
-use Rattle.pq_hunt.proofs.Changes.{ps, pat}
-use Rattle.pq_hunt.proofs.Guarding.{nodes_of, apart_same, first_cases, second_cases}
+use Rattle.pq_hunt.specs.LawsHold.Changes.{ps, pat}
+use Rattle.pq_nodes.specs.Views.{nodes_of}
+use Rattle.pq_nodes.proofs.GuardLists.{apart_same, first_cases, second_cases}
 use Rattle.pq_hunt.proofs.Draws.{marks_flight, helps_flight, has_entry, in_flight, own_apart, waits_for, draws_tie, own_idle, one_waits, two_wait, fewer_waits, unchanged_guards, counts, nothing_set}
 use Rattle.pq_hunt.proofs.Draws as draws
+use Rattle.pq_nodes.specs.Parts.{kind_of}
+use Rattle.pq_hunt.specs.NodeParts.{hunt_nodes}
 
 -- the marks that one batch places, as the heap's events list them
 marks_are : (n : ℕ) (act : Act) (r l : Node) (e : Entry) → entry_at r ≡ e
@@ -124,7 +130,7 @@ module _ (k : Limits) (s : Table HuntPart) (h : Holds hunt_rule k s) (id : ℕ) 
         let at_root : node t.nodes 1 ≡ g.counted = ap (node t.nodes) (sym root) ∙ counts k s h id v at g has_root in
         let is_last : t.size ≡ f.node = omega arith in
         let at_last : node t.nodes t.size ≡ f.counted = ap (node t.nodes) is_last ∙ counts k s h id v at f has_last in
-        let in_root = (t.guarded.held id v.post g here has_root).within in let in_last = (t.guarded.held id v.post f here has_last).within in
+        let in_root = (t.tree.guarded.held id v.post g here has_root).within in let in_last = (t.tree.guarded.held id v.post f here has_last).within in
         let less : ℕ → ℕ = λ q. busy_of q (node t.nodes 1) + busy_of q (node t.nodes t.size) in
         let of' : ℕ → Flight = fewer less in
         let enough : (q : ℕ) → less q ≤ (t.of q).waiting = (λ q. two_wait k s h id v at q 1 t.size (omega arith) (omega arith) (omega arith)) in
@@ -137,7 +143,7 @@ module _ (k : Limits) (s : Table HuntPart) (h : Holds hunt_rule k s) (id : ℕ) 
         let own : HuntPart = after_removal v.post.own in
         let g' : Guard = guard g.node g.stored (Hole l) in let f' : Guard = guard f.node f.stored Empty in
         let is : own.guards ≡ g' ∷ f' ∷ [] = ap emptied guards ∙ ap (λ (z : Entry). guard g.node g.stored (Hole z) ∷ f' ∷ []) (has_entry f.counted l last_word) in
-        let apart : IsApart (g ∷ f ∷ []) = subst IsApart guards (t.apart id v.post here) in
+        let apart : IsApart (g ∷ f ∷ []) = subst IsApart guards (t.tree.names id v.post here).apart in
         let helps_are : (m : ℕ) → helps m (flight_at g.counted) + helps m (flight_at f.counted) ≡ less m =
         (λ m. λ j. (helps_flight m g.counted ∙ ap (busy_of m) (sym at_root)) j + (helps_flight m f.counted ∙ ap (busy_of m) (sym at_last)) j) in
         let few_root = few_flights g.counted in let few_last = few_flights f.counted in
@@ -155,12 +161,12 @@ module _ (k : Limits) (s : Table HuntPart) (h : Holds hunt_rule k s) (id : ℕ) 
             size = t.size - 1;
             of = of';
             nodes = set (set t.nodes 1 (Hole l)) t.size Empty;
-            guarded = subst (λ (z : ℕ). IsGuarded kind (locks_in s.words) (words_in s.words) (set qs id (drawn_post (removal (g ∷ f ∷ [])) own)) (set (set t.nodes 1 (Hole l)) z Empty)) (sym is_last)
-                (subst (λ (z : ℕ). IsGuarded kind (locks_in s.words) (words_in s.words) (set qs id (drawn_post (removal (g ∷ f ∷ [])) own)) (set (set t.nodes z (Hole l)) f.node Empty)) root
-                (guards_written kind (locks_in s.words) (words_in s.words) (words_in s.words) qs t.nodes id v.post (record v.post { own = record v.post.own { guards = g' ∷ f ∷ [] } }) (drawn_post (removal (g ∷ f ∷ [])) own) g g' f f'
-                t.guarded here has_root refl (nothing_set k s h id v at g has_root)
+            guarded = subst (λ (z : ℕ). IsGuarded (kind_of hunt_nodes) (locks_in s.words) (words_in s.words) (set qs id (drawn_post (removal (g ∷ f ∷ [])) own)) (set (set t.nodes 1 (Hole l)) z Empty)) (sym is_last)
+                (subst (λ (z : ℕ). IsGuarded (kind_of hunt_nodes) (locks_in s.words) (words_in s.words) (set qs id (drawn_post (removal (g ∷ f ∷ [])) own)) (set (set t.nodes z (Hole l)) f.node Empty)) root
+                (guards_written (kind_of hunt_nodes) (locks_in s.words) (words_in s.words) (words_in s.words) qs t.nodes id v.post (record v.post { own = record v.post.own { guards = g' ∷ f ∷ [] } }) (drawn_post (removal (g ∷ f ∷ [])) own) g g' f f'
+                t.tree.guarded here has_root refl (nothing_set k s h id v at g has_root)
                 (λ z at_z. ⊎_elim (λ q. inl q) (λ r. inr (r.0, subst (λ (y : List Guard). Contains y z) (sym guards) r.1)) (first_cases g g' (f ∷ []) refl apart z at_z))
-                (in_later g' f (f ∷ []) (in_first f [])) refl (sym (t.guarded.held id v.post f here has_last).stored)
+                (in_later g' f (f ∷ []) (in_first f [])) refl (sym (t.tree.guarded.held id v.post f here has_last).stored)
                 (λ z at_z. second_cases g' f f' [] refl (apart_same (g ∷ f ∷ []) (g' ∷ f ∷ []) refl apart) z (subst (λ (y : List Guard). Contains y z) is at_z))));
             facts = steps'.facts;
             sized = inr (locked, ap (λ (z : ℕ). z - 1) size_is);
@@ -187,18 +193,18 @@ module _ (k : Limits) (s : Table HuntPart) (h : Holds hunt_rule k s) (id : ℕ) 
 
     only_apart : (m : ℕ) → 0 < v.post.number → v.post.own.climbing ≡ 0 → helps m (flight_at g.counted) + helps m [] + cond (eqb v.post.number m) 1 0 ≤ 1
     only_apart m positive idle = let n : ℕ = v.post.number in let none_waits = (own_idle k s h id v at positive idle).0 in
-        let within = (t.guarded.held id v.post g here has_only).within in
+        let within = (t.tree.guarded.held id v.post g here has_only).within in
         let a = only_helps m in let b = one_waits k s h id v at m 1 (omega arith) in let c = t.facts.flown.most m in dite (ℕ_discrete n m)
         (λ e'. let d = test_same n m 1 0 e' in let w : (t.of m).waiting ≡ (t.of n).waiting = ap (λ (z : ℕ). (t.of z).waiting) (sym e') in omega arith)
         (λ ne. let d = test_other n m 1 0 ne in omega arith)
 
     only_written : (b : Batch) (own : HuntPart) (counted : Node) → own.guards ≡ guard g.node g.stored counted ∷ []
-        → IsGuarded kind (locks_in s.words) (words_in s.words) (set qs id (drawn_post b own)) (set t.nodes 1 counted)
+        → IsGuarded (kind_of hunt_nodes) (locks_in s.words) (words_in s.words) (set qs id (drawn_post b own)) (set t.nodes 1 counted)
     only_written b own counted is =
         let g' : Guard = guard g.node g.stored counted in
-        let apart : IsApart (g ∷ []) = subst IsApart guards (t.apart id v.post here) in
-        subst (λ (z : ℕ). IsGuarded kind (locks_in s.words) (words_in s.words) (set qs id (drawn_post b own)) (set t.nodes z counted)) root
-        (guard_written kind (locks_in s.words) (words_in s.words) (words_in s.words) qs t.nodes id v.post (drawn_post b own) g g' t.guarded here has_only refl (nothing_set k s h id v at g has_only)
+        let apart : IsApart (g ∷ []) = subst IsApart guards (t.tree.names id v.post here).apart in
+        subst (λ (z : ℕ). IsGuarded (kind_of hunt_nodes) (locks_in s.words) (words_in s.words) (set qs id (drawn_post b own)) (set t.nodes z counted)) root
+        (guard_written (kind_of hunt_nodes) (locks_in s.words) (words_in s.words) (words_in s.words) qs t.nodes id v.post (drawn_post b own) g g' t.tree.guarded here has_only refl (nothing_set k s h id v at g has_only)
         (λ z at_z. ⊎_elim (λ q. inl q) (λ r. inr (r.0, subst (λ (y : List Guard). Contains y z) (sym guards) r.1)) (first_cases g g' [] refl apart z (subst (λ (y : List Guard). Contains y z) is at_z))))
 
     pub places_last : (act : Act) (e : Entry) (new : ℕ) → 0 < v.post.number → v.post.owed ≡ [] → v.post.own.climbing ≡ 0 → Contains v.post.locks heap_lock
@@ -209,7 +215,7 @@ module _ (k : Limits) (s : Table HuntPart) (h : Holds hunt_rule k s) (id : ℕ) 
         let size_is = (t.held id v.post here locked).0 in
         let none_mine = own_idle k s h id v at positive idle in let none_waits = none_mine.0 in
         let at_root : node t.nodes 1 ≡ g.counted = ap (node t.nodes) (sym root) ∙ counts k s h id v at g has_only in
-        let within = (t.guarded.held id v.post g here has_only).within in
+        let within = (t.tree.guarded.held id v.post g here has_only).within in
         let less : ℕ → ℕ = λ q. busy_of q (node t.nodes 1) in
         let of' : ℕ → Flight = fewer less in
         let enough : (q : ℕ) → less q ≤ (t.of q).waiting = (λ q. one_waits k s h id v at q 1 (omega arith)) in
@@ -256,7 +262,7 @@ module _ (k : Limits) (s : Table HuntPart) (h : Holds hunt_rule k s) (id : ℕ) 
         let size_is = (t.held id v.post here locked).0 in
         let none_mine = own_idle k s h id v at positive idle in let none_waits = none_mine.0 in
         let at_root : node t.nodes 1 ≡ g.counted = ap (node t.nodes) (sym root) ∙ counts k s h id v at g has_only in
-        let within = (t.guarded.held id v.post g here has_only).within in
+        let within = (t.tree.guarded.held id v.post g here has_only).within in
         let less : ℕ → ℕ = λ q. busy_of q (node t.nodes 1) in
         let of' : ℕ → Flight = fewer less in
         let enough : (q : ℕ) → less q ≤ (t.of q).waiting = (λ q. one_waits k s h id v at q 1 (omega arith)) in

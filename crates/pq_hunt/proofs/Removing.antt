@@ -25,10 +25,13 @@ use Rattle.pq_hunt.specs.Nodes.{used}
 use Rattle.pq_hunt.specs.Order.{HasWord}
 use Rattle.pq_hunt.specs.Words.{Means, node_with, node_of}
 use Rattle.pq_hunt.specs.Marks.{IsRemoval, MayGet}
-use Rattle.pq_hunt.specs.declared.views.Guard.{Guard}
-use Rattle.pq_hunt.specs.Layout.{lock_of, word_of}
-use Rattle.pq_hunt.specs.Views.{guard, with_guards, restored, without_guard}
-use Rattle.pq_hunt.specs.Steps.{HaveOwnersApart, AreUsed, guarding, sizing}
+use Rattle.pq_hunt.specs.Guards.{Guard}
+use Rattle.pq_nodes.specs.Layout.{lock_of, word_of}
+use Rattle.pq_nodes.specs.Views.{guard, restored, without_guard}
+use Rattle.pq_hunt.specs.Views.{with_guards}
+use Rattle.pq_nodes.specs.Parts.{guarding}
+use Rattle.pq_hunt.specs.NodeParts.{HaveOwnersApart, AreUsed}
+use Rattle.pq_hunt.specs.Steps.{sizing}
 use Rattle.pq_hunt.specs.Batches.{entry_at, removal, batch_of, after_draw}
 use Rattle.pq_hunt.proofs.Meanings.{unpacked_node}
 use Rattle.pq_hunt.proofs.Pairs.{second_restored}
@@ -40,7 +43,10 @@ use Rattle.pq_hunt.specs.declared.nodes.Node.{Node}
 use Rattle.pq_hunt.specs.declared.nodes.Node.TheVariants.{Empty, Available, Busy, Hole}
 use Rattle.pq_hunt.specs.declared.views.HuntPart.{HuntPart}
 use Rattle.pq_hunt.specs.Batches.{flight_at}
-use Rattle.pq_hunt.specs.Passes.{Holds, with_node, without_node, without_heap, IsFreeable, IsGuarded, at_heap, at_hole, removing, saying, IsUsed, AreApart, owed_after, telling}
+use Rattle.pq_nodes.specs.Passes.{ComesTo}
+use Rattle.pq_nodes.specs.Parts.{with_node, without_node, IsFreeable, HasGuard}
+use Rattle.pq_hunt.specs.Passes.{without_heap, at_heap, at_hole, removing, saying, IsUsed, AreApart, owed_after, telling}
+use Rattle.pq_hunt.specs.NodeParts.{hunt_nodes}
 
 -- the letters that a draw makes, where the root and the last node count as these
 abbrev pub letters : ℕ → Node → Node → List (ℕ × ℕ)
@@ -123,8 +129,8 @@ module _ (n size word : ℕ) (counted : Node) where
   abbrev pub root : Guard
   root = guard 1 word counted
 
-  pub to_root : (v v' : V) → v.post ≡ at_heap n size → Holds v v' (with_node v.post root) → v'.post ≡ removing n [] size size (root ∷ [])
-  to_root v v' q t = t.post ∙ ap (λ (p : P). with_node p root) q
+  pub to_root : (v v' : V) → v.post ≡ at_heap n size → ComesTo v v' (with_node hunt_nodes v.post root) → v'.post ≡ removing n [] size size (root ∷ [])
+  to_root v v' q t = t.post ∙ ap (λ (p : P). with_node hunt_nodes p root) q
 
   pub root_has : (v : V) → v.post ≡ removing n [] size size (root ∷ []) → Contains v.post.own.guards root
   root_has v q = subst (λ (p : P). Contains p.own.guards root) (sym q) (0, omega arith, refl)
@@ -142,8 +148,8 @@ module _ (n size word : ℕ) (counted : Node) where
     abbrev pub last : Guard
     last = guard size word counted
 
-    pub to_last : (v v' : V) → v.post ≡ removing n [] size size (g ∷ []) → Holds v v' (with_node v.post last) → v'.post ≡ removing n [] size size (g ∷ last ∷ [])
-    to_last v v' q t = t.post ∙ ap (λ (p : P). with_node p last) q
+    pub to_last : (v v' : V) → v.post ≡ removing n [] size size (g ∷ []) → ComesTo v v' (with_node hunt_nodes v.post last) → v'.post ≡ removing n [] size size (g ∷ last ∷ [])
+    to_last v v' q t = t.post ∙ ap (λ (p : P). with_node hunt_nodes p last) q
 
     pub last_has : (v : V) → v.post ≡ removing n [] size size (g ∷ last ∷ []) → Contains v.post.own.guards last
     last_has v q = subst (λ (p : P). Contains p.own.guards last) (sym q) (1, omega arith, refl)
@@ -169,11 +175,11 @@ module _ (n size : ℕ) (r counted : Node) where
   abbrev pub one : List (ℕ × ℕ) → ℕ → P
   one owed x = removing n owed size size (guard 1 x counted ∷ [])
 
-  pub one_guarded : (owed : List (ℕ × ℕ)) (x : ℕ) (v : V) → v.post ≡ one owed x → IsGuarded v 1
+  pub one_guarded : (owed : List (ℕ × ℕ)) (x : ℕ) (v : V) → v.post ≡ one owed x → HasGuard hunt_nodes v 1
   one_guarded owed x v q = record { guard = guard 1 x counted; has = subst (λ (p : P). Contains p.own.guards (guard 1 x counted)) (sym q) (0, omega arith, refl); is = refl }
 
-  pub to_word : (owed : List (ℕ × ℕ)) (x y : ℕ) (v w : V) → v.post ≡ one owed x → w ≡ with_post v (guarding v.post (restored 37 y v.post.own.guards)) → w.post ≡ one owed y
-  to_word owed x y v w q t = ap (λ (z : V). z.post) t ∙ ap (λ (p : P). guarding p (restored 37 y p.own.guards)) q
+  pub to_word : (owed : List (ℕ × ℕ)) (x y : ℕ) (v w : V) → v.post ≡ one owed x → w ≡ with_post v (guarding hunt_nodes v.post (restored 37 y v.post.own.guards)) → w.post ≡ one owed y
+  to_word owed x y v w q t = ap (λ (z : V). z.post) t ∙ ap (λ (p : P). guarding hunt_nodes p (restored 37 y p.own.guards)) q
 
   pub one_owes : (place x : ℕ) (v : V) → v.post ≡ one (letters_of place (flight_at r)) x → (o : ℕ) (e : Entry) → r ≡ Busy o e → Contains v.post.owed (o, place + 1)
   one_owes place x v q o e is = subst (λ (p : P). Contains p.owed (o, place + 1)) (sym q) (owes_last place r o e is)
@@ -181,17 +187,17 @@ module _ (n size : ℕ) (r counted : Node) where
   pub to_one_told : (place x : ℕ) (v w : V) → v.post ≡ one (letters_of place (flight_at r)) x → w ≡ with_post v (telling v.post r) → w.post ≡ one [] x
   to_one_told place x v w q t = ap (λ (z : V). z.post) t ∙ (ap (λ (p : P). telling p r) q ∙ ap (λ (owed : List (ℕ × ℕ)). one owed x) (told_last place r))
 
-  pub one_freeable : (x : ℕ) (v : V) → Means counted x → v.post ≡ one [] x → IsFreeable v 1
+  pub one_freeable : (x : ℕ) (v : V) → Means counted x → v.post ≡ one [] x → IsFreeable hunt_nodes v 1
   one_freeable x v means q = record {
     guard = guard 1 x counted;
     has = subst (λ (p : P). Contains p.own.guards (guard 1 x counted)) (sym q) (0, omega arith, refl);
     is = refl;
     means = means;
-    root = λ z. ap (λ (p : P). p.owed) q;
+    allowed = λ z. ap (λ (p : P). p.owed) q;
   }
 
-  pub to_unrooted : (x : ℕ) (v w : V) → v.post ≡ one [] x → Holds v w (without_node v.post 1) → w.post ≡ at_heap n size
-  to_unrooted x v w q t = t.post ∙ ap (λ (p : P). without_node p 1) q
+  pub to_unrooted : (x : ℕ) (v w : V) → v.post ≡ one [] x → ComesTo v w (without_node hunt_nodes v.post 1) → w.post ≡ at_heap n size
+  to_unrooted x v w q t = t.post ∙ ap (λ (p : P). without_node hunt_nodes p 1) q
 
 -- the draws of a removal that guards the root alone
 module _ (n : ℕ) (root : HeapWord) (used_root : IsUsed root) where
@@ -285,13 +291,13 @@ module _ (n size : ℕ) (root last : HeapWord) (act : Act) (used_root : IsUsed r
       ∙ ((λ j. placed_post (two (size - 1)) (gets_batch act root.entry G (F ∷ []) (two (size - 1)).own refl r_entry may j) (gets_part act root.entry G (F ∷ []) (two (size - 1)).own refl r_entry may j) first)
       ∙ ap (λ (e : Entry). removing n (letters first r l) (size - 1) (size - 1) (guard 1 (heap_number root) (Hole e) ∷ guard size (heap_number last) Empty ∷ [])) l_entry)
 
-  pub drawn_guarded : (owed : List (ℕ × ℕ)) (y : ℕ) (v : V) → v.post ≡ drawn owed y → IsGuarded v size
+  pub drawn_guarded : (owed : List (ℕ × ℕ)) (y : ℕ) (v : V) → v.post ≡ drawn owed y → HasGuard hunt_nodes v size
   drawn_guarded owed y v q = record { guard = guard size y Empty; has = subst (λ (p : P). Contains p.own.guards (guard size y Empty)) (sym q) (1, omega arith, refl); is = refl }
 
   module _ (many : 2 ≤ size) where
-    pub to_emptied : (owed : List (ℕ × ℕ)) (y x : ℕ) (v w : V) → v.post ≡ drawn owed y → w ≡ with_post v (guarding v.post (restored (word_of size) x v.post.own.guards)) → w.post ≡ drawn owed x
-    to_emptied owed y x v w q t = ap (λ (z : V). z.post) t ∙ (ap (λ (p : P). guarding p (restored (word_of size) x p.own.guards)) q
-        ∙ ap (λ (gs : List Guard). guarding (drawn owed y) gs) (second_restored n None 0 0 (guard 1 (heap_number root) (Hole last.entry)) (guard size y Empty) (λ z. omega arith) x))
+    pub to_emptied : (owed : List (ℕ × ℕ)) (y x : ℕ) (v w : V) → v.post ≡ drawn owed y → w ≡ with_post v (guarding hunt_nodes v.post (restored (word_of size) x v.post.own.guards)) → w.post ≡ drawn owed x
+    to_emptied owed y x v w q t = ap (λ (z : V). z.post) t ∙ (ap (λ (p : P). guarding hunt_nodes p (restored (word_of size) x p.own.guards)) q
+        ∙ ap (λ (gs : List Guard). guarding hunt_nodes (drawn owed y) gs) (second_restored n None 0 0 (guard 1 (heap_number root) (Hole last.entry)) (guard size y Empty) (λ z. omega arith) x))
 
   pub owes_root : (first : ℕ) (v : V) → v.post ≡ drawn (letters first r l) 0 → (o : ℕ) (e : Entry) → r ≡ Busy o e → Contains v.post.owed (o, first + 1)
   owes_root first v q o e is = subst (λ (p : P). Contains p.owed (o, first + 1)) (sym q) (owes_first first r l o e is)
@@ -331,23 +337,23 @@ module _ (n size x : ℕ) (hand : Entry) (many : 2 ≤ size) where
   guards_left = ap (λ (b : Bool). cond {A = List Guard} b (without_guard (lock_of size) (guard size 0 Empty ∷ [])) (guard 1 x (Hole hand) ∷ without_guard (lock_of size) (guard size 0 Empty ∷ []))) root_lock
       ∙ ap (λ (b : Bool). guard 1 x (Hole hand) ∷ cond {A = List Guard} b [] (guard size 0 Empty ∷ [])) own_lock
 
-  pub to_left : (v w : V) → v.post ≡ done → Holds v w (without_node v.post size) → w.post ≡ left
-  to_left v w q t = t.post ∙ (ap (λ (p : P). without_node p size) q ∙ (λ j. record { number = n; locks = locks_left j; flight = None; owed = []; own = with_guards done.own (guards_left j) }))
+  pub to_left : (v w : V) → v.post ≡ done → ComesTo v w (without_node hunt_nodes v.post size) → w.post ≡ left
+  to_left v w q t = t.post ∙ (ap (λ (p : P). without_node hunt_nodes p size) q ∙ (λ j. record { number = n; locks = locks_left j; flight = None; owed = []; own = with_guards done.own (guards_left j) }))
 
   pub done_held : (v : V) → v.post ≡ done → Contains v.post.locks (lock_of size)
   done_held v q = subst (λ (p : P). Contains p.locks (lock_of size)) (sym q) (0, omega arith, refl)
 
-  pub done_freeable : (v : V) → v.post ≡ done → IsFreeable v size
+  pub done_freeable : (v : V) → v.post ≡ done → IsFreeable hunt_nodes v size
   done_freeable v q = record {
     guard = guard size 0 Empty;
     has = subst (λ (p : P). Contains p.own.guards (guard size 0 Empty)) (sym q) (1, omega arith, refl);
     is = refl;
     means = empty_means;
-    root = λ z. ap (λ (p : P). p.owed) q;
+    allowed = λ z. ap (λ (p : P). p.owed) q;
   }
 
   pub left_held : (v : V) → v.post ≡ left → Contains v.post.locks 24
   left_held v q = subst (λ (p : P). Contains p.locks 24) (sym q) (1, omega arith, refl)
 
-  pub to_hole : (v w : V) → v.post ≡ left → Holds v w (without_heap v.post) → w.post ≡ at_hole n 1 x hand
+  pub to_hole : (v w : V) → v.post ≡ left → ComesTo v w (without_heap v.post) → w.post ≡ at_hole n 1 x hand
   to_hole v w q t = t.post ∙ ap without_heap q

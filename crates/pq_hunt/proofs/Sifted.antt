@@ -12,13 +12,18 @@ use Rattle.pq_seats.proofs.Lists.{in_first, in_later, in_cases, not_in}
 use Rattle.pq_hunt.specs.declared.nodes.Node.{Node}
 use Rattle.pq_hunt.specs.declared.nodes.Node.TheVariants.{Empty, Available, Busy, Hole}
 use Rattle.pq_hunt.specs.Order.{HasWord, MayStandOver}
-use Rattle.pq_hunt.specs.declared.views.Guard.{Guard}
+use Rattle.pq_hunt.specs.Guards.{Guard}
 use Rattle.pq_hunt.specs.declared.views.HuntPart.{HuntPart}
-use Rattle.pq_hunt.specs.Layout.{lock_of}
+use Rattle.pq_nodes.specs.Layout.{lock_of}
 use Rattle.pq_hunt.specs.Words.{Means}
-use Rattle.pq_hunt.specs.Views.{idle, guard, with_guards, without_guard, exchanged, exchanged_third}
-use Rattle.pq_hunt.specs.Steps.{guarding}
-use Rattle.pq_hunt.specs.Passes.{Holds, locks_of, filled, with_node, without_node, TookNode, IsFreeable, MayStand, sifting, IsHolding, Leaves, AreOthers, IsRank, IsLeast, Sifted}
+use Rattle.pq_nodes.specs.Views.{guard, without_guard, exchanged, exchanged_third}
+use Rattle.pq_hunt.specs.Views.{idle, with_guards}
+use Rattle.pq_nodes.specs.Parts.{guarding}
+use Rattle.pq_nodes.specs.Passes.{ComesTo, TookNode}
+use Rattle.pq_nodes.specs.Parts.{with_node, without_node, IsFreeable}
+use Rattle.pq_nodes.specs.Views.{AreOthers}
+use Rattle.pq_hunt.specs.Passes.{locks_of, filled, MayStand, sifting, IsHolding, Leaves, IsRank, IsLeast, Sifted}
+use Rattle.pq_hunt.specs.NodeParts.{hunt_nodes}
 
 module _ {A : Type 0} where
   same_number : (a b : ℕ) (x y : A) → a ≡ b → cond (eqb a b) x y ≡ x
@@ -38,15 +43,15 @@ guards_apart i [] a = refl
 guards_apart i (g ∷ gs) a = other_number (lock_of g.node) (lock_of i) (without_guard (lock_of i) gs) (g ∷ without_guard (lock_of i) gs) (λ e. a.0 (omega arith))
     ∙ ap (λ (z : List Guard). g ∷ z) (guards_apart i gs a.1)
 
-freed_is : (n i : ℕ) (gs gs' : List Guard) → less (lock_of i) (locks_of gs []) ≡ locks_of gs' [] → without_guard (lock_of i) gs ≡ gs' → without_node (sifting n gs) i ≡ sifting n gs'
+freed_is : (n i : ℕ) (gs gs' : List Guard) → less (lock_of i) (locks_of gs []) ≡ locks_of gs' [] → without_guard (lock_of i) gs ≡ gs' → without_node hunt_nodes (sifting n gs) i ≡ sifting n gs'
 freed_is n i gs gs' locks guards = λ j. record { number = n; locks = locks j; flight = None; owed = []; own = with_guards idle (guards j) }
 
-pub freed_first : (n i : ℕ) (g : Guard) (gs : List Guard) → g.node ≡ i → AreOthers i gs → without_node (sifting n (g ∷ gs)) i ≡ sifting n gs
+pub freed_first : (n i : ℕ) (g : Guard) (gs : List Guard) → g.node ≡ i → AreOthers i gs → without_node hunt_nodes (sifting n (g ∷ gs)) i ≡ sifting n gs
 freed_first n i g gs is apart = freed_is n i (g ∷ gs) gs
     (locks_apart i gs (lock_of g.node ∷ []) apart ∙ ap (locks_of gs) (same_number (lock_of g.node) (lock_of i) [] (lock_of g.node ∷ []) (ap lock_of is)))
     (same_number (lock_of g.node) (lock_of i) (without_guard (lock_of i) gs) (g ∷ without_guard (lock_of i) gs) (ap lock_of is) ∙ guards_apart i gs apart)
 
-pub freed_second : (n i : ℕ) (f g : Guard) (gs : List Guard) → g.node ≡ i → f.node ≢ i → AreOthers i gs → without_node (sifting n (f ∷ g ∷ gs)) i ≡ sifting n (f ∷ gs)
+pub freed_second : (n i : ℕ) (f g : Guard) (gs : List Guard) → g.node ≡ i → f.node ≢ i → AreOthers i gs → without_node hunt_nodes (sifting n (f ∷ g ∷ gs)) i ≡ sifting n (f ∷ gs)
 freed_second n i f g gs is ne apart =
     let far : lock_of f.node ≢ lock_of i = λ e. ne (omega arith) in
     freed_is n i (f ∷ g ∷ gs) (f ∷ gs)
@@ -78,35 +83,35 @@ pub holds_then : (v w : View HuntPart) (gs : List Guard) → Leaves v w gs → I
 holds_then v w gs a = a.post ∙ ap (λ (n : ℕ). sifting n gs) (sym (number_stays v w gs a))
 
 -- a step changes the post that a part before it left
-pub steps_on : (v w x : View HuntPart) (f : Post HuntPart → Post HuntPart) (gs gs' : List Guard) → Leaves v w gs → Holds w x (f w.post)
+pub steps_on : (v w x : View HuntPart) (f : Post HuntPart → Post HuntPart) (gs gs' : List Guard) → Leaves v w gs → ComesTo w x (f w.post)
     → f (sifting v.post.number gs) ≡ sifting v.post.number gs' → Leaves v x gs'
 steps_on v w x f gs gs' a b e = record { post = b.post ∙ (ap f a.post ∙ e); lanes = b.lanes ∙ a.lanes; front = b.front ∙ a.front }
 
 pub goes_on : (v w x : View HuntPart) (gs gs' : List Guard) → Leaves v w gs → Leaves w x gs' → Leaves v x gs'
 goes_on v w x gs gs' a b = record { post = b.post ∙ ap (λ (n : ℕ). sifting n gs') (number_stays v w gs a); lanes = b.lanes ∙ a.lanes; front = b.front ∙ a.front }
 
-pub stored_post : (w x : View HuntPart) (p : Post HuntPart) → x ≡ with_post w p → Holds w x p
+pub stored_post : (w x : View HuntPart) (p : Post HuntPart) → x ≡ with_post w p → ComesTo w x p
 stored_post w x p e = record { post = ap (λ (z : View HuntPart). z.post) e; lanes = ap (λ (z : View HuntPart). z.lanes) e; front = ap (λ (z : View HuntPart). z.front) e }
 
 pub seen : (v w x : View HuntPart) (gs : List Guard) → Leaves v w gs → x ≡ w → Leaves v x gs
 seen v w x gs a e = subst (λ (z : View HuntPart). Leaves v z gs) (sym e) a
 
-pub frees_first : (v w x : View HuntPart) (i : ℕ) (g : Guard) (gs : List Guard) → Leaves v w (g ∷ gs) → Holds w x (without_node w.post i) → g.node ≡ i → AreOthers i gs → Leaves v x gs
-frees_first v w x i g gs a b is apart = steps_on v w x (λ p. without_node p i) (g ∷ gs) gs a b (freed_first v.post.number i g gs is apart)
+pub frees_first : (v w x : View HuntPart) (i : ℕ) (g : Guard) (gs : List Guard) → Leaves v w (g ∷ gs) → ComesTo w x (without_node hunt_nodes w.post i) → g.node ≡ i → AreOthers i gs → Leaves v x gs
+frees_first v w x i g gs a b is apart = steps_on v w x (λ p. without_node hunt_nodes p i) (g ∷ gs) gs a b (freed_first v.post.number i g gs is apart)
 
-pub frees_second : (v w x : View HuntPart) (i : ℕ) (f g : Guard) (gs : List Guard) → Leaves v w (f ∷ g ∷ gs) → Holds w x (without_node w.post i) → g.node ≡ i → f.node ≢ i → AreOthers i gs → Leaves v x (f ∷ gs)
-frees_second v w x i f g gs a b is ne apart = steps_on v w x (λ p. without_node p i) (f ∷ g ∷ gs) (f ∷ gs) a b (freed_second v.post.number i f g gs is ne apart)
+pub frees_second : (v w x : View HuntPart) (i : ℕ) (f g : Guard) (gs : List Guard) → Leaves v w (f ∷ g ∷ gs) → ComesTo w x (without_node hunt_nodes w.post i) → g.node ≡ i → f.node ≢ i → AreOthers i gs → Leaves v x (f ∷ gs)
+frees_second v w x i f g gs a b is ne apart = steps_on v w x (λ p. without_node hunt_nodes p i) (f ∷ g ∷ gs) (f ∷ gs) a b (freed_second v.post.number i f g gs is ne apart)
 
 pub held_lock : (v w : View HuntPart) (gs : List Guard) → Leaves v w gs → (g : Guard) → Contains gs g → Contains w.post.locks (lock_of g.node)
 held_lock v w gs a g has = subst (λ (p : Post HuntPart). Contains p.locks (lock_of g.node)) (sym a.post) (lock_has gs [] g has)
 
-pub freeable : (v w : View HuntPart) (gs : List Guard) → Leaves v w gs → (g : Guard) → Contains gs g → Means g.counted g.stored → IsFreeable w g.node
+pub freeable : (v w : View HuntPart) (gs : List Guard) → Leaves v w gs → (g : Guard) → Contains gs g → Means g.counted g.stored → IsFreeable hunt_nodes w g.node
 freeable v w gs a g has means = record {
   guard = g;
   has = subst (λ (p : Post HuntPart). Contains p.own.guards g) (sym a.post) has;
   is = refl;
   means = means;
-  root = λ e. ap (λ (p : Post HuntPart). p.owed) a.post;
+  allowed = λ e. ap (λ (p : Post HuntPart). p.owed) a.post;
 }
 
 pub guards_are : (v : View HuntPart) (gs : List Guard) → IsHolding v gs → v.post.own.guards ≡ gs
@@ -141,21 +146,21 @@ fills_hole v x hole old word hand others is e = steps_on v v x (λ p. filled p w
     (starts v (guard hole old (Hole hand) ∷ others) is) (stored_post v x (filled v.post word) e) refl
 
 pub sifts_left : (v x : View HuntPart) (g h : Guard) (others : List Guard) → IsHolding v (g ∷ h ∷ others)
-    → x ≡ with_post v (guarding v.post (exchanged v.post.own.guards)) → Leaves v x (guard g.node h.stored h.counted ∷ guard h.node h.stored g.counted ∷ others)
-sifts_left v x g h others is e = steps_on v v x (λ p. guarding p (exchanged p.own.guards)) (g ∷ h ∷ others) (exchanged (g ∷ h ∷ others))
-    (starts v (g ∷ h ∷ others) is) (stored_post v x (guarding v.post (exchanged v.post.own.guards)) e) refl
+    → x ≡ with_post v (guarding hunt_nodes v.post (exchanged v.post.own.guards)) → Leaves v x (guard g.node h.stored h.counted ∷ guard h.node h.stored g.counted ∷ others)
+sifts_left v x g h others is e = steps_on v v x (λ p. guarding hunt_nodes p (exchanged p.own.guards)) (g ∷ h ∷ others) (exchanged (g ∷ h ∷ others))
+    (starts v (g ∷ h ∷ others) is) (stored_post v x (guarding hunt_nodes v.post (exchanged v.post.own.guards)) e) refl
 
 pub sifts_right : (v x : View HuntPart) (g f h : Guard) (others : List Guard) → IsHolding v (g ∷ f ∷ h ∷ others)
-    → x ≡ with_post v (guarding v.post (exchanged_third v.post.own.guards)) → Leaves v x (guard g.node h.stored h.counted ∷ f ∷ guard h.node h.stored g.counted ∷ others)
-sifts_right v x g f h others is e = steps_on v v x (λ p. guarding p (exchanged_third p.own.guards)) (g ∷ f ∷ h ∷ others) (exchanged_third (g ∷ f ∷ h ∷ others))
-    (starts v (g ∷ f ∷ h ∷ others) is) (stored_post v x (guarding v.post (exchanged_third v.post.own.guards)) e) refl
+    → x ≡ with_post v (guarding hunt_nodes v.post (exchanged_third v.post.own.guards)) → Leaves v x (guard g.node h.stored h.counted ∷ f ∷ guard h.node h.stored g.counted ∷ others)
+sifts_right v x g f h others is e = steps_on v v x (λ p. guarding hunt_nodes p (exchanged_third p.own.guards)) (g ∷ f ∷ h ∷ others) (exchanged_third (g ∷ f ∷ h ∷ others))
+    (starts v (g ∷ f ∷ h ∷ others) is) (stored_post v x (guarding hunt_nodes v.post (exchanged_third v.post.own.guards)) e) refl
 
 -- a lock was taken
-pub takes_second : (v w x : View HuntPart) (g : Guard) (i : ℕ) → Leaves v w (g ∷ []) → (t : TookNode w x i) → Leaves v x (g ∷ guard i t.0 t.1 ∷ [])
-takes_second v w x g i a t = steps_on v w x (λ p. with_node p (guard i t.0 t.1)) (g ∷ []) (g ∷ guard i t.0 t.1 ∷ []) a t.3 refl
+pub takes_second : (v w x : View HuntPart) (g : Guard) (i : ℕ) → Leaves v w (g ∷ []) → (t : TookNode hunt_nodes w x i) → Leaves v x (g ∷ guard i t.0 t.1 ∷ [])
+takes_second v w x g i a t = steps_on v w x (λ p. with_node hunt_nodes p (guard i t.0 t.1)) (g ∷ []) (g ∷ guard i t.0 t.1 ∷ []) a t.3 refl
 
-pub takes_third : (v w x : View HuntPart) (g f : Guard) (i : ℕ) → Leaves v w (g ∷ f ∷ []) → (t : TookNode w x i) → Leaves v x (g ∷ f ∷ guard i t.0 t.1 ∷ [])
-takes_third v w x g f i a t = steps_on v w x (λ p. with_node p (guard i t.0 t.1)) (g ∷ f ∷ []) (g ∷ f ∷ guard i t.0 t.1 ∷ []) a t.3 refl
+pub takes_third : (v w x : View HuntPart) (g f : Guard) (i : ℕ) → Leaves v w (g ∷ f ∷ []) → (t : TookNode hunt_nodes w x i) → Leaves v x (g ∷ f ∷ guard i t.0 t.1 ∷ [])
+takes_third v w x g f i a t = steps_on v w x (λ p. with_node hunt_nodes p (guard i t.0 t.1)) (g ∷ f ∷ []) (g ∷ f ∷ guard i t.0 t.1 ∷ []) a t.3 refl
 
 pub guard_in : (v w : View HuntPart) (gs : List Guard) → Leaves v w gs → (g : Guard) → Contains gs g → Contains w.post.own.guards g
 guard_in v w gs a g has = subst (λ (p : Post HuntPart). Contains p.own.guards g) (sym a.post) has

@@ -18,7 +18,8 @@ use Rattle.pq_hunt.specs.Nodes.{node, used}
 use Rattle.pq_hunt.specs.Order.{HasWord, MaySettle}
 use Rattle.pq_hunt.specs.Marks.{MayGet, helped_mark, drawn_marks, last_marks, above_marks}
 use Rattle.pq_hunt.proofs.Counting.{busy, IsHeap, Holds}
-use Rattle.pq_hunt.proofs.Heaps.{in_use, used_word, draw, draw_only, settle}
+use Rattle.pq_hunt.specs.LawsHold.Owners.{in_use}
+use Rattle.pq_hunt.proofs.Heaps.{used_word, draw, draw_only, settle}
 use Rattle.pq_hunt.proofs.Weights.{helped, least_root, helped_rising, helped_length, without_length, holds_drawn}
 use Rattle.pq_hunt.proofs.Weights.{holds_only, holds_settled}
 use Rattle.pq_hunt.proofs.Counts.{counted, room_where_busy}

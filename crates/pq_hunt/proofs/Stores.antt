@@ -1,7 +1,6 @@
 -- The stores under the heap's locks keep its facts.
-use Rattle.std.proofs.Common.{◌≡◌, ◌≢◌, ◌⊎◌, Some, ℕ, ◌+◌, ◌*◌, ◌/◌, ◌<◌, ◌≤◌, Bool, true, false, cond, eqb, List, ◌∷◌, length, get_or, set, inl, inr, ⊎_elim, refl, sym, ap, ◌∙◌, subst, arith, get_or-set_other, length-set, eq-eqb, ne_eqb}
+use Rattle.std.proofs.Common.{◌≡◌, Some, ℕ, ◌+◌, ◌*◌, ◌/◌, ◌<◌, ◌≤◌, Bool, true, false, cond, eqb, List, ◌∷◌, length, get_or, set, inl, inr, ⊎_elim, refl, sym, ap, ◌∙◌, subst, arith, get_or-set_other, length-set, eq-eqb, ne_eqb}
 use Rattle.std.specs.Prelude.{Contains}
-use Rattle.std.proofs.lemmas.List.{set-get_or}
 use mathlib.Core.Option.{some}
 use lib.ListN.{get_elem?}
 use native.Mathlib.Decide.{ℕ_discrete}
@@ -15,25 +14,29 @@ use Rattle.pq_seats.specs.declared.views.View.{View}
 use Rattle.pq_seats.specs.Letters.{letter_count}
 use Rattle.pq_seats.specs.Rules.{Table, Holds}
 use Rattle.pq_seats.proofs.Lists.{in_first, in_later}
-use Rattle.pq_nodes.specs.Guards.{IsGuarded}
-use Rattle.pq_nodes.proofs.Locks.{guard_written, guards_written, counted_is}
 use Rattle.pq_hunt.specs.declared.nodes.Node.{Node}
-use Rattle.pq_hunt.specs.declared.nodes.Node.TheVariants.{Empty, Available, Busy, Hole}
+use Rattle.pq_hunt.specs.declared.nodes.Node.TheVariants.{Available, Busy, Hole}
 use Rattle.pq_hunt.specs.Nodes.{node}
 use Rattle.pq_hunt.specs.Order.{HasWord, MayStandOver}
 use Rattle.pq_hunt.specs.Flights.{Flight, flight, looking_at, IsOther}
 use Rattle.pq_hunt.specs.Facts.{HeapFacts}
 use Rattle.pq_hunt.proofs.Events.{event_leaf, event_climb, event_sift, event_fill}
-use Rattle.pq_hunt.specs.declared.views.Guard.{Guard}
+use Rattle.pq_hunt.specs.Guards.{Guard}
 use Rattle.pq_hunt.specs.declared.views.HuntPart.{HuntPart}
-use Rattle.pq_hunt.specs.Layout.{heap_lock, lock_of, word_of}
-use Rattle.pq_hunt.specs.Views.{guard, with_guards, restored, exchanged, exchanged_third, refilled}
-use Rattle.pq_hunt.specs.Ties.{kind, locks_in, words_in, IsApart, HuntTied}
+use Rattle.pq_nodes.specs.Layout.{word_of}
+use Rattle.pq_hunt.specs.Layout.{heap_lock}
+use Rattle.pq_nodes.specs.Views.{guard, exchanged, exchanged_third, refilled}
+use Rattle.pq_hunt.specs.Views.{with_guards}
+use Rattle.pq_nodes.specs.Views.{IsApart}
+use Rattle.pq_hunt.specs.Ties.{HuntTied}
 use Rattle.pq_hunt.specs.Rules.{hunt_rule}
-use Rattle.pq_hunt.specs.LawsHold.{number_low}
-use Rattle.pq_hunt.proofs.Changes.{ps, pat, changed, Sizes, Inserts, IsSteady, steady_inserts, letters_kept}
-use Rattle.pq_hunt.proofs.Locking.{word_set, locks_stay}
-use Rattle.pq_hunt.proofs.Guarding.{nodes_of, in_same, apart_same, nodes_restored, restored_cases, first_cases, second_cases, third_cases}
+use Rattle.pq_hunt.specs.LawsHold.Frames.{number_low}
+use Rattle.pq_hunt.specs.LawsHold.Changes.{ps, pat, changed, Sizes, Inserts, IsSteady, steady_inserts, letters_kept}
+use Rattle.pq_nodes.specs.Views.{nodes_of}
+use Rattle.pq_nodes.proofs.GuardLists.{in_same}
+use Rattle.pq_nodes.specs.Facts.{NodeFacts}
+use Rattle.pq_hunt.specs.NodeParts.{hunt_nodes}
+use Rattle.pq_nodes.proofs.Keeping.{guard_counts, refill_keeps, exchange_second, exchange_third}
 
 -- one flight is another
 pub with_flight : (ℕ → Flight) → ℕ → Flight → ℕ → Flight
@@ -62,13 +65,13 @@ module _ (k : Limits) (s : Table HuntPart) (h : Holds hunt_rule k s) (id : ℕ) 
 
   -- the word of a node is stored; the seat's locks stay, and it guards the same nodes
   node_change : (p' : Post HuntPart) (i x : ℕ) (of' : ℕ → Flight) (nodes' : List Node) (m' : List Entry)
-      → p'.number ≡ v.post.number → p'.locks ≡ v.post.locks → nodes_of p'.own.guards ≡ nodes_of v.post.own.guards
-      → IsGuarded kind (locks_in (set s.words (word_of i) x)) (words_in (set s.words (word_of i) x)) (set qs id p') nodes'
+      → p'.number ≡ v.post.number → nodes_of p'.own.guards ≡ nodes_of v.post.own.guards
+      → NodeFacts hunt_nodes (set s.words (word_of i) x) (set qs id p') nodes'
       → (size' : ℕ) → HeapFacts k.seats k.capacity size' of' nodes' m' → Sizes k s h id v at p' (set s.words (word_of i) x) size'
       → Inserts k s h id v at p' (set s.words (word_of i) x) of'
       → (owed : p'.owed ≡ v.post.owed) → (p'.own.lettered ≡ v.post.own.lettered)
       → HuntTied k (set s.words (word_of i) x) (set qs id p') m'
-  node_change p' i x of' nodes' m' number locks same guarded size' facts sizes inserts owed lettered =
+  node_change p' i x of' nodes' m' number same tree size' facts sizes inserts owed lettered =
       let word : (n : ℕ) → n ≤ 16 → get_or (set s.words (word_of i) x) n 0 ≡ get_or s.words n 0 = (λ n low. get_or-set_other s.words (word_of i) n x 0 (λ e. omega arith)) in
       changed k s h id v at p' (set s.words (word_of i) x) m' (record {
         number = number;
@@ -76,13 +79,8 @@ module _ (k : Limits) (s : Table HuntPart) (h : Holds hunt_rule k s) (id : ℕ) 
         size = size';
         of = of';
         nodes = nodes';
-        guarded = guarded;
+        tree = tree;
         facts = facts;
-        holds = λ g has. let r = in_same v.post.own.guards p'.own.guards same g has in
-            subst (λ (z : List ℕ). Contains z (lock_of g.node)) (sym locks) (subst (λ (z : ℕ). Contains v.post.locks (lock_of z)) r.2 (t.holds id v.post r.0 here r.1));
-        named = λ j has. let old = t.named id v.post j here (subst (λ (z : List ℕ). Contains z (lock_of j)) locks has) in
-            let r = in_same p'.own.guards v.post.own.guards (sym same) old.0 old.1 in (r.0, r.1, r.2 ∙ old.2);
-        apart = apart_same v.post.own.guards p'.own.guards same (t.apart id v.post here);
         sizes = sizes;
         inserts = inserts;
         letters = record {
@@ -113,37 +111,7 @@ module _ (k : Limits) (s : Table HuntPart) (h : Holds hunt_rule k s) (id : ℕ) 
 
   -- a guarded node is one of the heap's, and its word one of the table's
   within : (g : Guard) → Contains v.post.own.guards g → (g.node < length t.nodes) × (word_of g.node < length s.words)
-  within g has = let lt = (t.guarded.held id v.post g here has).within in let long = t.long in let nodes_long = t.facts.long in (lt, omega arith)
-
-  -- the word is stored, and its node counts as it did
-  pub stores_word : (g : Guard) (x : ℕ) → Contains v.post.own.guards g
-      → HuntTied k (set s.words (word_of g.node) x) (set qs id (guarding (restored (word_of g.node) x v.post.own.guards))) (left h.history)
-  stores_word g x has =
-      let i : ℕ = g.node in let gs : List Guard = restored (word_of i) x v.post.own.guards in let p' : Post HuntPart = guarding gs in let ws : List ℕ = set s.words (word_of i) x in
-      let w = within g has in let w_nodes = w.0 in let w_words = w.1 in
-      let g' : Guard = guard i x g.counted in
-      let counted : get_or t.nodes i Empty ≡ g.counted = counted_is kind (locks_in s.words) (words_in s.words) qs t.nodes id v.post g t.guarded here has in
-      let unchanged : set t.nodes i g.counted ≡ t.nodes = ap (λ (z : Node). set t.nodes i z) (sym counted) ∙ set-get_or t.nodes i Empty in
-      node_change p' i x t.of t.nodes (left h.history) refl refl (nodes_restored (word_of i) x v.post.own.guards)
-      (subst (λ (f : ℕ → ℕ). IsGuarded kind f (words_in ws) (set qs id p') t.nodes) (sym (locks_stay s.words i x))
-      (subst (λ (z : List Node). IsGuarded kind (locks_in s.words) (words_in ws) (set qs id p') z) unchanged
-      (guard_written kind (locks_in s.words) (words_in s.words) (words_in ws) qs t.nodes id v.post p' g g' t.guarded here has refl (word_set s.words i x (omega arith))
-      (λ z at_z. restored_cases i x v.post.own.guards g (t.apart id v.post here) has refl z at_z))))
-      t.size t.facts (size_stays p' i x refl refl refl) (steady_inserts k s h id v at p' (word_of i) x (omega arith) (steady_guards gs)) refl refl
-
-  -- the first guard's node counts as another, by a store to its word
-  module _ (g : Guard) (gs : List Guard) (guards : v.post.own.guards ≡ g ∷ gs) (x : ℕ) (counted : Node) where
-    abbrev has_g : Contains v.post.own.guards g
-    has_g = subst (λ (z : List Guard). Contains z g) (sym guards) (in_first g gs)
-
-    pub first_written : (p' : Post HuntPart) → p'.own.guards ≡ guard g.node x counted ∷ gs
-        → IsGuarded kind (locks_in (set s.words (word_of g.node) x)) (words_in (set s.words (word_of g.node) x)) (set qs id p') (set t.nodes g.node counted)
-    first_written p' is =
-        let i : ℕ = g.node in let ws : List ℕ = set s.words (word_of i) x in let w = within g has_g in let w_words = w.1 in let g' : Guard = guard i x counted in
-        let apart : IsApart (g ∷ gs) = subst IsApart guards (t.apart id v.post here) in
-        subst (λ (f : ℕ → ℕ). IsGuarded kind f (words_in ws) (set qs id p') (set t.nodes i counted)) (sym (locks_stay s.words i x))
-        (guard_written kind (locks_in s.words) (words_in s.words) (words_in ws) qs t.nodes id v.post p' g g' t.guarded here has_g refl (word_set s.words i x (omega arith))
-        (λ z at_z. ⊎_elim (λ e. inl e) (λ r. inr (r.0, subst (λ (l : List Guard). Contains l z) (sym guards) r.1)) (first_cases g g' gs refl apart z (subst (λ (l : List Guard). Contains l z) is at_z))))
+  within g has = let lt = (t.tree.guarded.held id v.post g here has).within in let long = t.long in let nodes_long = t.facts.long in (lt, omega arith)
 
   -- a hole is filled with the entry in hand
   pub fills : (g : Guard) (gs : List Guard) (x : ℕ) (entry : Entry) → v.post.own.guards ≡ g ∷ gs → g.counted ≡ Hole entry
@@ -152,30 +120,12 @@ module _ (k : Limits) (s : Table HuntPart) (h : Holds hunt_rule k s) (id : ℕ) 
   fills g gs x entry guards hole left_may right_may =
       let i : ℕ = g.node in let p' : Post HuntPart = guarding (refilled x (Available entry) v.post.own.guards) in
       let has : Contains v.post.own.guards g = subst (λ (z : List Guard). Contains z g) (sym guards) (in_first g gs) in
-      let counted : node t.nodes i ≡ Hole entry = counted_is kind (locks_in s.words) (words_in s.words) qs t.nodes id v.post g t.guarded here has ∙ hole in
+      let counted : node t.nodes i ≡ Hole entry = guard_counts hunt_nodes s.words qs t.nodes t.tree id v.post here g has ∙ hole in
       let is : p'.own.guards ≡ guard i x (Available entry) ∷ gs = ap (refilled x (Available entry)) guards in
-      node_change p' i x t.of (set t.nodes i (Available entry)) (left h.history) refl refl (ap nodes_of is ∙ sym (ap nodes_of guards))
-      (first_written g gs guards x (Available entry) p' is)
+      node_change p' i x t.of (set t.nodes i (Available entry)) (left h.history) refl (ap nodes_of is ∙ sym (ap nodes_of guards))
+      (refill_keeps hunt_nodes s.words qs t.nodes t.tree id v.post here g gs x (Available entry) p' guards is refl (within g has).1)
       t.size (event_fill k.seats k.capacity t.size t.of t.nodes (left h.history) i entry t.facts counted left_may right_may)
       (size_stays p' i x refl refl refl) (steady_inserts k s h id v at p' (word_of i) x (omega arith) (steady_guards p'.own.guards)) refl refl
-
-  -- The word of the node guarded by f is stored in that of the node guarded by g, and the two nodes count in each other's
-  -- place. `between` is the list with the first guard changed alone.
-  exchanges : (g f : Guard) (between behind : List Guard) (p' : Post HuntPart) → Contains v.post.own.guards g → Contains v.post.own.guards f → g.node ≢ f.node
-      → p'.own.guards ≡ behind
-      → ((l : Guard) → Contains between l → (guard g.node f.stored f.counted ≡ l) ⊎ ((l.node ≢ g.node) × Contains v.post.own.guards l))
-      → Contains between f
-      → ((l : Guard) → Contains behind l → (guard f.node f.stored g.counted ≡ l) ⊎ ((l.node ≢ f.node) × Contains between l))
-      → IsGuarded kind (locks_in (set s.words (word_of g.node) f.stored)) (words_in (set s.words (word_of g.node) f.stored)) (set qs id p')
-      (set (set t.nodes g.node f.counted) f.node g.counted)
-  exchanges g f between behind p' has_g has_f differ is kept has_h kept_h =
-      let i : ℕ = g.node in let x : ℕ = f.stored in let ws : List ℕ = set s.words (word_of i) x in let w = within g has_g in let w_words = w.1 in
-      let g' : Guard = guard i x f.counted in let f' : Guard = guard f.node x g.counted in
-      let set_is = word_set s.words i x (omega arith) in
-      let stored : words_in s.words f.node ≡ f.stored = (t.guarded.held id v.post f here has_f).stored in
-      subst (λ (z : ℕ → ℕ). IsGuarded kind z (words_in ws) (set qs id p') (set (set t.nodes i f.counted) f.node g.counted)) (sym (locks_stay s.words i x))
-      (guards_written kind (locks_in s.words) (words_in s.words) (words_in ws) qs t.nodes id v.post (guarding between) p' g g' f f' t.guarded here has_g refl set_is
-      kept has_h refl (sym (set_is.others f.node (λ e. differ (sym e)) ∙ stored)) (λ l has. kept_h l (subst (λ (z : List Guard). Contains z l) is has)))
 
   module _ (g f : Guard) (gs : List Guard) (guards : v.post.own.guards ≡ g ∷ f ∷ gs) where
     abbrev pub has_first : Contains v.post.own.guards g
@@ -184,32 +134,19 @@ module _ (k : Limits) (s : Table HuntPart) (h : Holds hunt_rule k s) (id : ℕ) 
     abbrev pub has_second : Contains v.post.own.guards f
     has_second = subst (λ (z : List Guard). Contains z f) (sym guards) (in_later g f (f ∷ gs) (in_first f gs))
 
-    abbrev apart_here : IsApart (g ∷ f ∷ gs)
-    apart_here = subst IsApart guards (t.apart id v.post here)
-
-    second_exchanged : (p' : Post HuntPart) → p'.own.guards ≡ exchanged v.post.own.guards
-        → IsGuarded kind (locks_in (set s.words (word_of g.node) f.stored)) (words_in (set s.words (word_of g.node) f.stored)) (set qs id p')
-        (set (set t.nodes g.node f.counted) f.node g.counted)
-    second_exchanged p' is =
-        let g' : Guard = guard g.node f.stored f.counted in let f' : Guard = guard f.node f.stored g.counted in
-        exchanges g f (g' ∷ f ∷ gs) (g' ∷ f' ∷ gs) p' has_first has_second (λ e. apart_here.0 f (in_first f gs) (sym e)) (is ∙ ap exchanged guards)
-        (λ l has. ⊎_elim (λ e. inl e) (λ r. inr (r.0, subst (λ (z : List Guard). Contains z l) (sym guards) r.1)) (first_cases g g' (f ∷ gs) refl apart_here l has))
-        (in_later g' f (f ∷ gs) (in_first f gs))
-        (λ l has. second_cases g' f f' gs refl (apart_same (g ∷ f ∷ gs) (g' ∷ f ∷ gs) refl apart_here) l has)
-
     -- a sift: the second guard's node has the lesser word
     pub sifts : (d : ℕ) (x e : Entry) → g.counted ≡ Hole x → f.node / 2 ≡ g.node → f.node + d ≡ 4 * g.node + 1 → HasWord f.counted e → raw_of e ≤ raw_of x
         → MayStandOver e (node t.nodes d)
         → HuntTied k (set s.words (word_of g.node) f.stored) (set qs id (guarding (exchanged v.post.own.guards))) (left h.history)
     sifts d x e hole child pair word under may =
         let p' : Post HuntPart = guarding (exchanged v.post.own.guards) in
-        let at_g : node t.nodes g.node ≡ Hole x = counted_is kind (locks_in s.words) (words_in s.words) qs t.nodes id v.post g t.guarded here has_first ∙ hole in
-        let at_f : node t.nodes f.node ≡ f.counted = counted_is kind (locks_in s.words) (words_in s.words) qs t.nodes id v.post f t.guarded here has_second in
+        let at_g : node t.nodes g.node ≡ Hole x = guard_counts hunt_nodes s.words qs t.nodes t.tree id v.post here g has_first ∙ hole in
+        let at_f : node t.nodes f.node ≡ f.counted = guard_counts hunt_nodes s.words qs t.nodes t.tree id v.post here f has_second in
         let is : p'.own.guards ≡ guard g.node f.stored f.counted ∷ guard f.node f.stored g.counted ∷ gs = ap exchanged guards in
         let facts = event_sift k.seats k.capacity t.size t.of t.nodes (left h.history) g.node f.node d x e t.facts at_g child pair (subst (λ (z : Node). HasWord z e) (sym at_f) word) under may in
         let nodes' : List Node = set (set t.nodes g.node f.counted) f.node g.counted in
-        node_change p' g.node f.stored t.of nodes' (left h.history) refl refl (ap nodes_of is ∙ sym (ap nodes_of guards))
-        (second_exchanged p' refl) t.size
+        node_change p' g.node f.stored t.of nodes' (left h.history) refl (ap nodes_of is ∙ sym (ap nodes_of guards))
+        (exchange_second hunt_nodes s.words qs t.nodes t.tree id v.post here (λ o l. refl) g f gs p' guards refl refl (within g has_first).1) t.size
         (subst (λ (z : Node). HeapFacts k.seats k.capacity t.size t.of (set (set t.nodes g.node f.counted) f.node z) (left h.history)) (sym hole)
         (subst (λ (z : Node). HeapFacts k.seats k.capacity t.size t.of (set (set t.nodes g.node z) f.node (Hole x)) (left h.history)) at_f facts))
         (size_stays p' g.node f.stored refl refl refl) (steady_inserts k s h id v at p' (word_of g.node) f.stored (omega arith) (steady_guards p'.own.guards)) refl refl
@@ -224,8 +161,8 @@ module _ (k : Limits) (s : Table HuntPart) (h : Holds hunt_rule k s) (id : ℕ) 
     climbs x y child above below under positive climbing place =
         let p' : Post HuntPart = climbed in let n : ℕ = v.post.number in
         let ws : List ℕ = set s.words (word_of g.node) f.stored in
-        let at_g : node t.nodes g.node ≡ Available y = counted_is kind (locks_in s.words) (words_in s.words) qs t.nodes id v.post g t.guarded here has_first ∙ above in
-        let at_f : node t.nodes f.node ≡ Busy n x = counted_is kind (locks_in s.words) (words_in s.words) qs t.nodes id v.post f t.guarded here has_second ∙ below in
+        let at_g : node t.nodes g.node ≡ Available y = guard_counts hunt_nodes s.words qs t.nodes t.tree id v.post here g has_first ∙ above in
+        let at_f : node t.nodes f.node ≡ Busy n x = guard_counts hunt_nodes s.words qs t.nodes t.tree id v.post here f has_second ∙ below in
         let is : p'.own.guards ≡ guard g.node f.stored f.counted ∷ guard f.node f.stored g.counted ∷ gs = ap exchanged guards in
         let new : Flight = looking_at (t.of n) g.node in
         let of' : ℕ → Flight = with_flight t.of n new in
@@ -234,8 +171,8 @@ module _ (k : Limits) (s : Table HuntPart) (h : Holds hunt_rule k s) (id : ℕ) 
         let same : (m : ℕ) → m ≤ 16 → letter_count m ws (set qs id p') ≡ letter_count m s.words qs = letters_kept k s h id v at p' (word_of g.node) f.stored (omega arith) refl in
         let old = t.told id v.post here positive in
         let low = (number_low k s h id v at positive).1 in
-        node_change p' g.node f.stored of' (set (set t.nodes g.node f.counted) f.node g.counted) (left h.history) refl refl (ap nodes_of is ∙ sym (ap nodes_of guards))
-        (second_exchanged p' refl) t.size
+        node_change p' g.node f.stored of' (set (set t.nodes g.node f.counted) f.node g.counted) (left h.history) refl (ap nodes_of is ∙ sym (ap nodes_of guards))
+        (exchange_second hunt_nodes s.words qs t.nodes t.tree id v.post here (λ o l. refl) g f gs p' guards refl refl (within g has_first).1) t.size
         (subst (λ (z : Node). HeapFacts k.seats k.capacity t.size of' (set (set t.nodes g.node f.counted) f.node z) (left h.history)) (sym above)
         (subst (λ (z : Node). HeapFacts k.seats k.capacity t.size of' (set (set t.nodes g.node z) f.node (Available y)) (left h.history)) (sym below) facts))
         (size_stays p' g.node f.stored refl refl refl)
@@ -263,16 +200,13 @@ module _ (k : Limits) (s : Table HuntPart) (h : Holds hunt_rule k s) (id : ℕ) 
       let g' : Guard = guard g.node f.stored f.counted in let f' : Guard = guard f.node f.stored g.counted in
       let has_first : Contains v.post.own.guards g = subst (λ (z : List Guard). Contains z g) (sym guards) (in_first g (b ∷ f ∷ gs)) in
       let has_third : Contains v.post.own.guards f = subst (λ (z : List Guard). Contains z f) (sym guards) (in_later g f (b ∷ f ∷ gs) (in_later b f (f ∷ gs) (in_first f gs))) in
-      let apart_here : IsApart (g ∷ b ∷ f ∷ gs) = subst IsApart guards (t.apart id v.post here) in
-      let at_g : node t.nodes g.node ≡ Hole x = counted_is kind (locks_in s.words) (words_in s.words) qs t.nodes id v.post g t.guarded here has_first ∙ hole in
-      let at_f : node t.nodes f.node ≡ f.counted = counted_is kind (locks_in s.words) (words_in s.words) qs t.nodes id v.post f t.guarded here has_third in
+      let apart_here : IsApart (g ∷ b ∷ f ∷ gs) = subst IsApart guards (t.tree.names id v.post here).apart in
+      let at_g : node t.nodes g.node ≡ Hole x = guard_counts hunt_nodes s.words qs t.nodes t.tree id v.post here g has_first ∙ hole in
+      let at_f : node t.nodes f.node ≡ f.counted = guard_counts hunt_nodes s.words qs t.nodes t.tree id v.post here f has_third in
       let is : p'.own.guards ≡ g' ∷ b ∷ f' ∷ gs = ap exchanged_third guards in
       let facts = event_sift k.seats k.capacity t.size t.of t.nodes (left h.history) g.node f.node d x e t.facts at_g child pair (subst (λ (z : Node). HasWord z e) (sym at_f) word) under may in
-      node_change p' g.node f.stored t.of (set (set t.nodes g.node f.counted) f.node g.counted) (left h.history) refl refl (ap nodes_of is ∙ sym (ap nodes_of guards))
-      (exchanges g f (g' ∷ b ∷ f ∷ gs) (g' ∷ b ∷ f' ∷ gs) p' has_first has_third (λ same. apart_here.0 f (in_later b f (f ∷ gs) (in_first f gs)) (sym same)) is
-      (λ l has. ⊎_elim (λ q. inl q) (λ r. inr (r.0, subst (λ (z : List Guard). Contains z l) (sym guards) r.1)) (first_cases g g' (b ∷ f ∷ gs) refl apart_here l has))
-      (in_later g' f (b ∷ f ∷ gs) (in_later b f (f ∷ gs) (in_first f gs)))
-      (λ l has. third_cases g' b f f' gs refl (apart_same (g ∷ b ∷ f ∷ gs) (g' ∷ b ∷ f ∷ gs) refl apart_here) l has)) t.size
+      node_change p' g.node f.stored t.of (set (set t.nodes g.node f.counted) f.node g.counted) (left h.history) refl (ap nodes_of is ∙ sym (ap nodes_of guards))
+      (exchange_third hunt_nodes s.words qs t.nodes t.tree id v.post here (λ o l. refl) g b f gs p' guards refl refl (within g has_first).1) t.size
       (subst (λ (z : Node). HeapFacts k.seats k.capacity t.size t.of (set (set t.nodes g.node f.counted) f.node z) (left h.history)) (sym hole)
       (subst (λ (z : Node). HeapFacts k.seats k.capacity t.size t.of (set (set t.nodes g.node z) f.node (Hole x)) (left h.history)) at_f facts))
       (size_stays p' g.node f.stored refl refl refl) (steady_inserts k s h id v at p' (word_of g.node) f.stored (omega arith) (steady_guards p'.own.guards)) refl refl
@@ -306,8 +240,8 @@ module _ (k : Limits) (s : Table HuntPart) (h : Holds hunt_rule k s) (id : ℕ) 
       let there : get_or ws 25 0 ≡ get_or s.words 25 0 = get_or-set_other s.words (word_of i) 25 x 0 (omega arith) in
       let mine = (h.each id v at).held heap_lock locked in
       let is_mine = mine.1 in
-      node_change p' i x of' (set t.nodes i (Busy n e)) (left h.history) refl refl (ap nodes_of is ∙ sym (ap nodes_of guards))
-      (first_written g gs guards x (Busy n e) p' is)
+      node_change p' i x of' (set t.nodes i (Busy n e)) (left h.history) refl (ap nodes_of is ∙ sym (ap nodes_of guards))
+      (refill_keeps hunt_nodes s.words qs t.nodes t.tree id v.post here g gs x (Busy n e) p' guards is refl (within g (subst (λ (z : List Guard). Contains z g) (sym guards) (in_first g gs))).1)
       i (subst (λ (z : ℕ). HeapFacts k.seats k.capacity z of' (set t.nodes z (Busy n e)) (left h.history)) place facts)
       (record {
         free = λ e. absurd (omega arith);

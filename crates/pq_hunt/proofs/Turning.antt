@@ -11,14 +11,17 @@ use Rattle.pq_seats.specs.declared.views.View.{View}
 use Rattle.pq_seats.specs.Views.{with_post}
 use Rattle.pq_hunt.specs.declared.nodes.Node.TheVariants.{Available, Busy}
 use Rattle.pq_hunt.specs.Words.{Means, node_with, node_of}
-use Rattle.pq_hunt.specs.declared.views.Guard.{Guard}
+use Rattle.pq_hunt.specs.Guards.{Guard}
 use Rattle.pq_hunt.specs.declared.views.HuntPart.{HuntPart}
-use Rattle.pq_hunt.specs.Views.{guard}
+use Rattle.pq_nodes.specs.Views.{guard}
 use Rattle.pq_hunt.specs.Steps.{busy_number, looking}
-use Rattle.pq_hunt.specs.Passes.{Holds, CanFind, HoldsTwo, TookPair, IsPaired, in_flight, guarding_flight, without_node}
+use Rattle.pq_nodes.specs.Passes.{ComesTo, HoldsTwo}
+use Rattle.pq_nodes.specs.Parts.{without_node}
+use Rattle.pq_hunt.specs.Passes.{CanFind, TookPair, IsPaired, in_flight, guarding_flight}
 use Rattle.pq_hunt.proofs.Meanings.{one_meaning}
 use Rattle.pq_hunt.proofs.Leafing.{busy_means}
 use Rattle.pq_hunt.proofs.Pairs.{holds_two, two_freed}
+use Rattle.pq_hunt.specs.NodeParts.{hunt_nodes}
 
 -- a word that was read and unpacked means the node that it says
 pub unpacked_means : (w : HeapWord) (word : ℕ) → FitsHeapWord w → heap_number w ≡ word → Means (node_of w) word
@@ -53,12 +56,12 @@ module _ (n parent child : ℕ) (e : Entry) (v w : View HuntPart) (t : TookPair 
   }
 
   -- as taken
-  pub taken_held : (x : View HuntPart) → x ≡ w → parent ≢ child → HoldsTwo x parent child
+  pub taken_held : (x : View HuntPart) → x ≡ w → parent ≢ child → HoldsTwo hunt_nodes x parent child
   taken_held x same differ = holds_two n (Some e) child 1 upper_guard lower_guard differ x (ap (λ (z : View HuntPart). z.post) same ∙ t.holds.post) t.upper_means t.lower_means
 
-  pub again : (x y : View HuntPart) → x ≡ w → parent ≢ child → Holds x y (without_node (without_node x.post child) parent) → Holds v y (in_flight n e child)
+  pub again : (x y : View HuntPart) → x ≡ w → parent ≢ child → ComesTo x y (without_node hunt_nodes (without_node hunt_nodes x.post child) parent) → ComesTo v y (in_flight n e child)
   again x y same differ f = record {
-    post = f.post ∙ (ap (λ (p : P). without_node (without_node p child) parent) (ap (λ (z : View HuntPart). z.post) same ∙ t.holds.post) ∙ two_freed n (Some e) child 1 upper_guard lower_guard differ);
+    post = f.post ∙ (ap (λ (p : P). without_node hunt_nodes (without_node hunt_nodes p child) parent) (ap (λ (z : View HuntPart). z.post) same ∙ t.holds.post) ∙ two_freed n (Some e) child 1 upper_guard lower_guard differ);
     lanes = f.lanes ∙ (ap (λ (z : View HuntPart). z.lanes) same ∙ t.holds.lanes);
     front = f.front ∙ (ap (λ (z : View HuntPart). z.front) same ∙ t.holds.front);
   }
@@ -70,12 +73,12 @@ module _ (n parent child : ℕ) (e : Entry) (v w : View HuntPart) (t : TookPair 
   pub to_looked : (x : View HuntPart) → x ≡ with_post w (looking w.post) → x.post ≡ looked
   to_looked x is = ap (λ (z : View HuntPart). z.post) is ∙ ap looking t.holds.post
 
-  pub looked_held : (x : View HuntPart) → x ≡ with_post w (looking w.post) → parent ≢ child → HoldsTwo x parent child
+  pub looked_held : (x : View HuntPart) → x ≡ with_post w (looking w.post) → parent ≢ child → HoldsTwo hunt_nodes x parent child
   looked_held x is differ = holds_two n (Some e) (child / 2) 1 upper_guard lower_guard differ x (to_looked x is) t.upper_means t.lower_means
 
-  pub goes_up : (x y : View HuntPart) → x ≡ with_post w (looking w.post) → parent ≢ child → parent ≡ child / 2 → Holds x y (without_node (without_node x.post child) parent) → Holds v y (in_flight n e parent)
+  pub goes_up : (x y : View HuntPart) → x ≡ with_post w (looking w.post) → parent ≢ child → parent ≡ child / 2 → ComesTo x y (without_node hunt_nodes (without_node hunt_nodes x.post child) parent) → ComesTo v y (in_flight n e parent)
   goes_up x y is differ half f = record {
-    post = f.post ∙ (ap (λ (p : P). without_node (without_node p child) parent) (to_looked x is) ∙ (two_freed n (Some e) (child / 2) 1 upper_guard lower_guard differ ∙ ap (λ (z : ℕ). in_flight n e z) (sym half)));
+    post = f.post ∙ (ap (λ (p : P). without_node hunt_nodes (without_node hunt_nodes p child) parent) (to_looked x is) ∙ (two_freed n (Some e) (child / 2) 1 upper_guard lower_guard differ ∙ ap (λ (z : ℕ). in_flight n e z) (sym half)));
     lanes = f.lanes ∙ (ap (λ (z : View HuntPart). z.lanes) is ∙ t.holds.lanes);
     front = f.front ∙ (ap (λ (z : View HuntPart). z.front) is ∙ t.holds.front);
   }

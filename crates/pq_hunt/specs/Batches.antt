@@ -9,9 +9,10 @@ use Rattle.pq_model.specs.EntryWords.{entry_of}
 use Rattle.pq_seats.specs.Batches.{Batch}
 use Rattle.pq_hunt.specs.declared.nodes.Node.{Node}
 use Rattle.pq_hunt.specs.declared.nodes.Node.TheVariants.{Empty, Available, Busy, Hole}
-use Rattle.pq_hunt.specs.declared.views.Guard.{Guard}
+use Rattle.pq_hunt.specs.Guards.{Guard}
 use Rattle.pq_hunt.specs.declared.views.HuntPart.{HuntPart}
-use Rattle.pq_hunt.specs.Views.{guard, with_guards}
+use Rattle.pq_nodes.specs.Views.{guard}
+use Rattle.pq_hunt.specs.Views.{with_guards}
 
 -- the entry that a node holds, and that with the least number where it holds none
 abbrev pub entry_at : Node → Entry

@@ -1,5 +1,9 @@
 -- The heap's rule outlives the steps that the base makes on its own.
+pub mod Owners
+pub mod Locks
 pub mod Frames
+pub mod Changes
+pub mod NodeSteps
 use Rattle.std.proofs.Common.{◌≡◌, ◌≢◌, ◌⊎◌, Some, None, ℕ, zero, suc, ◌+◌, ◌*◌, ◌%◌, ◌<◌, ◌≤◌, Bool, true, false}
 use Rattle.std.proofs.Common.{List, [], ◌∷◌, ◌++◌, map, length, get_or, set, min, inl, inr, ⊎_elim, refl, sym, ap}
 use Rattle.std.proofs.Common.{◌∙◌, subst, arith, length-set, get_or-set_same, get_or-set_other}
@@ -27,51 +31,24 @@ use Rattle.pq_seats.specs.Rules.{Table, Rule, Holds, Lawful, Stands, taken_over,
 use Rattle.pq_seats.proofs.Lists.{sum_kept, sum_two, at_unmap, put_here, not_in, first_in, lanes_of_has, numbered_once}
 use Rattle.pq_seats.proofs.Resting.{plain_at_rest}
 use Rattle.pq_hunt.specs.Flights.{Flight}
-use Rattle.pq_hunt.specs.declared.views.Guard.{Guard}
+use Rattle.pq_hunt.specs.Guards.{Guard}
 use Rattle.pq_hunt.specs.declared.views.HuntPart.{HuntPart}
-use Rattle.pq_hunt.specs.Layout.{heap_lock, size_word, lock_of, word_of, is_lock, word_count}
+use Rattle.pq_nodes.specs.Layout.{lock_of, word_of}
+use Rattle.pq_hunt.specs.Layout.{heap_lock, size_word, is_lock, word_count}
 use Rattle.pq_hunt.specs.Views.{idle}
-use Rattle.pq_hunt.specs.Ties.{kind, locks_in, words_in, IsApart, IsInserting, HuntTied}
+use Rattle.pq_nodes.specs.Facts.{locks_in, words_in}
+use Rattle.pq_nodes.specs.Views.{IsApart}
+use Rattle.pq_hunt.specs.Ties.{IsInserting, HuntTied}
 use Rattle.pq_words.specs.declared.letters.Letter.{Letter}
 use Rattle.pq_words.specs.declared.letters.Letter.TheVariants.{Nothing, At, Back}
 use Rattle.pq_words.specs.Letters.{letter_number}
 use Rattle.pq_hunt.specs.Rules.{hunt_rule, told, KnowsLetter}
-use Rattle.pq_hunt.specs.LawsHold.Frames.{guarded_on, same_locks, same_words, no_guard, told_on}
-
--- two posts with one number are one
-pub one_number : (k : Limits) (s : Table HuntPart) (h : Holds hunt_rule k s) (i j : ℕ) (p q : Post HuntPart)
-    → get_elem? (map post_of s.views) i ≡ some p → get_elem? (map post_of s.views) j ≡ some q
-    → 0 < p.number → p.number ≡ q.number → j ≡ i
-one_number k s h i j p q at to positive e =
-    let v = at_unmap post_of s.views i p at in let w = at_unmap post_of s.views j q to in
-    let n : ℕ = p.number in
-    let named : v.0.post.number ≡ n = ap (λ (z : Post HuntPart). z.number) v.2 in
-    let same : w.0.post.number ≡ n = ap (λ (z : Post HuntPart). z.number) w.2 ∙ sym e in
-    let a = subst (λ (z : ℕ). HasFirst z v.0.lanes) named ((h.each i v.0 v.1).first (λ z. omega arith)) in
-    let b = subst (λ (z : ℕ). HasFirst z w.0.lanes) same ((h.each j w.0 w.1).first (λ z. omega arith)) in
-    let one = lanes_of_has v.0.lanes (lane n a.0) (first_in n v.0.lanes a) in
-    let two = lanes_of_has w.0.lanes (lane n b.0) (first_in n w.0.lanes b) in
-    let once = h.once n in let most = numbered_once n 1 k.seats in
-    dite (ℕ_discrete j i) (λ z. z) (λ ne. let both = sum_two (λ (z : View HuntPart). lanes_of n z.lanes) s.views i j v.0 w.0 v.1 w.1 ne in absurd (omega arith))
-
--- a seat's number is at most 16
-pub number_low : (k : Limits) (s : Table HuntPart) (h : Holds hunt_rule k s) (j : ℕ) (v : View HuntPart) → get_elem? s.views j ≡ some v → 0 < v.post.number
-    → (v.post.number ≤ k.seats) × (v.post.number ≤ 16)
-number_low k s h j v at positive = let f = h.each j v at in let a = f.first (λ z. omega arith) in let few = h.few in
-    let r = f.ranged (lane v.post.number a.0) (first_in v.post.number v.lanes a) in let high = r.1 in (high, omega arith)
-
-both : (a b : Bool) → (a && b) ≡ true → (a ≡ true) × (b ≡ true)
-both true b e = (refl, e)
-both false b e = absurd (cc)
-
-pub lock_cases : (c i : ℕ) → is_lock c i ≡ true → (i ≡ 24) ⊎ ((36 ≤ i) × (i < 36 + 4 * c) × (i % 4 ≡ 0))
-lock_cases c i is = ⊎_elim (λ t. inl t.1) (λ t. inr (far t.0 is)) (eqb_tells i 24)
-  where
-    far : eqb i 24 ≡ false → is_lock c i ≡ true → (36 ≤ i) × (i < 36 + 4 * c) × (i % 4 ≡ 0)
-    far e is = let rest = sym (ap (λ (z : Bool). z || (leb 36 i && (ltb i (36 + 4 * c) && eqb (i % 4) 0))) e) ∙ is in
-        let a = both (leb 36 i) (ltb i (36 + 4 * c) && eqb (i % 4) 0) rest in
-        let b = both (ltb i (36 + 4 * c)) (eqb (i % 4) 0) a.1 in
-        (leb-true 36 i a.0, ltb-true i (36 + 4 * c) b.0, eqb-true (i % 4) 0 b.1)
+use Rattle.pq_nodes.proofs.Keeping.{come_keeps, frame_keeps}
+use Rattle.pq_hunt.specs.NodeParts.{hunt_nodes}
+use Rattle.pq_nodes.proofs.Tables.{same_locks, same_words}
+use Rattle.pq_hunt.specs.LawsHold.Locks.{lock_cases}
+use Rattle.pq_hunt.specs.LawsHold.Frames.{one_number, number_low, no_guard, told_on}
+use Rattle.pq_nodes.specs.Parts.{kind_of}
 
 module _ (k : Limits) (s : Table HuntPart) (h : Holds hunt_rule k s) where
   abbrev ps : List (Post HuntPart)
@@ -96,15 +73,10 @@ module _ (k : Limits) (s : Table HuntPart) (h : Holds hunt_rule k s) where
         size = t.size;
         of = t.of;
         nodes = t.nodes;
-        guarded = guarded_on kind (locks_in s.words) (locks_in s.words) (words_in s.words) (words_in s.words) ps (ps ++ f ∷ []) t.nodes (λ i. refl) (λ i. refl)
-            (λ j q g at has. ⊎_elim (λ a. (q, a, has)) (λ e. absurd (no_guard g (subst (λ (z : Post HuntPart). Contains z.own.guards g) (sym e) has))) (at_snoc ps f q j at))
-            t.guarded;
+        tree = come_keeps hunt_nodes s.words ps t.nodes f t.tree refl refl;
         facts = t.facts;
         free = t.free;
         held = λ j p at has. ⊎_elim (λ a. t.held j p a has) (λ e. absurd (not_in heap_lock (subst (λ (z : Post HuntPart). Contains z.locks heap_lock) (sym e) has))) (at_snoc ps f p j at);
-        holds = λ j p g at has. ⊎_elim (λ a. t.holds j p g a has) (λ e. absurd (no_guard g (subst (λ (z : Post HuntPart). Contains z.own.guards g) (sym e) has))) (at_snoc ps f p j at);
-        named = λ j p i at has. ⊎_elim (λ a. t.named j p i a has) (λ e. absurd (not_in (lock_of i) (subst (λ (z : Post HuntPart). Contains z.locks (lock_of i)) (sym e) has))) (at_snoc ps f p j at);
-        apart = λ j p at. ⊎_elim (λ a. t.apart j p a) (λ e. subst (λ (z : Post HuntPart). IsApart z.own.guards) e tt) (at_snoc ps f p j at);
         told = λ j p at pos. ⊎_elim
             (λ a. told_on s.words s.words ps (ps ++ f ∷ []) t.of p (same p.number) (t.told j p a pos))
             (λ e. subst (λ (z : Post HuntPart). IsInserting s.words (ps ++ f ∷ []) t.of z) e (let is : n ≡ p.number = ap (λ (z : Post HuntPart). z.number) e in record {
@@ -137,15 +109,13 @@ module _ (k : Limits) (s : Table HuntPart) (h : Holds hunt_rule k s) where
           size = t.size;
           of = t.of;
           nodes = t.nodes;
-          guarded = guarded_on kind (locks_in s.words) (locks_in s.words) (words_in s.words) (words_in s.words) ps (set ps j f) t.nodes (λ i. refl) (λ i. refl)
-              (λ i q g to has. ⊎_elim (λ e. absurd (no_guard g (subst (λ (z : Post HuntPart). Contains z.own.guards g) (sym e.1) has))) (λ a. (q, a.1, has)) (at_set ps j i f q to))
-              t.guarded;
+          tree = frame_keeps hunt_nodes s.words ps t.nodes t.tree j v.post pat s.words f (λ i. refl) (λ i. refl)
+              (ap (λ (z : Post HuntPart). z.own.guards) (sym plain))
+              (λ i has. subst (λ (z : Post HuntPart). Contains z.locks (lock_of i)) plain has)
+              (λ i has. absurd (not_in (lock_of i) has));
           facts = t.facts;
           free = t.free;
           held = λ i p to has. ⊎_elim (λ e. absurd (not_in heap_lock (subst (λ (z : Post HuntPart). Contains z.locks heap_lock) (sym e.1) has))) (λ a. t.held i p a.1 has) (at_set ps j i f p to);
-          holds = λ i p g to has. ⊎_elim (λ e. absurd (no_guard g (subst (λ (z : Post HuntPart). Contains z.own.guards g) (sym e.1) has))) (λ a. t.holds i p g a.1 has) (at_set ps j i f p to);
-          named = λ i p n to has. ⊎_elim (λ e. absurd (not_in (lock_of n) (subst (λ (z : Post HuntPart). Contains z.locks (lock_of n)) (sym e.1) has))) (λ a. t.named i p n a.1 has) (at_set ps j i f p to);
-          apart = λ i p to. ⊎_elim (λ e. subst (λ (z : Post HuntPart). IsApart z.own.guards) e.1 tt) (λ a. t.apart i p a.1) (at_set ps j i f p to);
           told = λ i p to pos. ⊎_elim
               (λ e. let is : 0 ≡ p.number = ap (λ (z : Post HuntPart). z.number) e.1 in absurd (omega arith))
               (λ a. told_on s.words s.words ps (set ps j f) t.of p (same p.number) (t.told i p a.1 pos))
@@ -189,23 +159,14 @@ module _ (k : Limits) (s : Table HuntPart) (h : Holds hunt_rule k s) where
           size = t.size;
           of = t.of;
           nodes = t.nodes;
-          guarded = guarded_on kind (locks_in s.words) (locks_in ws) (words_in s.words) (words_in ws) ps (set ps j p') t.nodes
-              (same_locks s.words me 0 (omega arith)) (same_words s.words me 0 (omega arith))
-              (λ i q g to has. ⊎_elim (λ e. (v.post, subst (λ (z : ℕ). get_elem? ps z ≡ some v.post) (sym e.0) pat, subst (λ (z : Post HuntPart). Contains z.own.guards g) (sym e.1) has)) (λ a. (q, a.1, has)) (at_set ps j i p' q to))
-              t.guarded;
+          tree = frame_keeps hunt_nodes s.words ps t.nodes t.tree j v.post pat ws p' (same_locks s.words me 0 (omega arith))
+              (same_words s.words me 0 (omega arith)) refl (λ i has. has) (λ i has. has);
           facts = t.facts;
           free = λ e. other 25 (λ z. omega arith) ∙ t.free (sym (other 24 (λ z. omega arith)) ∙ e);
           held = λ i q to has. let old : (q.own.size_counted ≡ t.size) × (slice_index s.words 25 ≡ q.own.size_stored) = ⊎_elim
               (λ e. subst (λ (z : Post HuntPart). (z.own.size_counted ≡ t.size) × (slice_index s.words 25 ≡ z.own.size_stored)) e.1 (t.held j v.post pat (subst (λ (z : Post HuntPart). Contains z.locks heap_lock) (sym e.1) has)))
               (λ a. t.held i q a.1 has) (at_set ps j i p' q to) in
               (old.0, other 25 (λ z. omega arith) ∙ old.1);
-          holds = λ i q g to has. ⊎_elim
-              (λ e. subst (λ (z : Post HuntPart). Contains z.locks (lock_of g.node)) e.1 (t.holds j v.post g pat (subst (λ (z : Post HuntPart). Contains z.own.guards g) (sym e.1) has)))
-              (λ a. t.holds i q g a.1 has) (at_set ps j i p' q to);
-          named = λ i q n to has. ⊎_elim
-              (λ e. subst (λ (z : Post HuntPart). (g : Guard) × Contains z.own.guards g × (g.node ≡ n)) e.1 (t.named j v.post n pat (subst (λ (z : Post HuntPart). Contains z.locks (lock_of n)) (sym e.1) has)))
-              (λ a. t.named i q n a.1 has) (at_set ps j i p' q to);
-          apart = λ i q to. ⊎_elim (λ e. subst (λ (z : Post HuntPart). IsApart z.own.guards) e.1 (t.apart j v.post pat)) (λ a. t.apart i q a.1) (at_set ps j i p' q to);
           told = λ i q to pos. ⊎_elim
               (λ e. subst (λ (z : Post HuntPart). IsInserting ws (set ps j p') t.of z) e.1 (record {
                 told = record { most = omega arith; told = let o = owed me in omega (arith, here) };

@@ -8,6 +8,7 @@ pub mod Words
 pub mod Marks
 pub mod Laws
 pub mod Layout
+pub mod Guards
 pub mod Views
 pub mod Batches
 pub mod Ties
@@ -15,6 +16,7 @@ pub mod Rules
 pub mod LawsHold
 pub mod Seen
 pub mod Steps
+pub mod NodeParts
 pub mod Passes
 pub mod Tables
 pub mod Turns

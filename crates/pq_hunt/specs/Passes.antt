@@ -1,5 +1,5 @@
 -- What a step of the heap makes of its pass, as the contracts of its parts see it.
-use Rattle.std.specs.Prelude.{◌≡◌, ◌≢◌, ◌⊎◌, ℕ, ◌+◌, ◌*◌, ◌/◌, ◌<◌, ◌≤◌, Bool, true, false, List, [], ◌∷◌, ◌++◌}
+use Rattle.std.specs.Prelude.{◌≡◌, ◌⊎◌, ℕ, ◌+◌, ◌*◌, ◌/◌, ◌<◌, ◌≤◌, Bool, true, false, List, [], ◌∷◌}
 use Rattle.std.specs.Prelude.{Contains, Option, Some, None}
 use Rattle.pq_words.specs.declared.entries.Entry.{Entry}
 use Rattle.pq_words.specs.Entries.{raw_of}
@@ -13,18 +13,17 @@ use Rattle.pq_seats.specs.Posts.{with_lock, without_lock}
 use Rattle.pq_hunt.specs.declared.nodes.Node.{Node}
 use Rattle.pq_hunt.specs.declared.nodes.Node.TheVariants.{Empty, Available, Busy, Hole}
 use Rattle.pq_hunt.specs.Order.{HasWord, MayStandOver}
-use Rattle.pq_hunt.specs.declared.views.Guard.{Guard}
+use Rattle.pq_hunt.specs.Guards.{Guard}
 use Rattle.pq_hunt.specs.declared.views.HuntPart.{HuntPart}
-use Rattle.pq_hunt.specs.Layout.{heap_lock, lock_of}
+use Rattle.pq_nodes.specs.Layout.{lock_of}
+use Rattle.pq_hunt.specs.Layout.{heap_lock}
 use Rattle.pq_hunt.specs.Words.{Means, node_of}
-use Rattle.pq_hunt.specs.Views.{idle, guard, with_guards, with_size, without_guard, refilled}
-use Rattle.pq_hunt.specs.Steps.{guarding, first_entry}
-
--- the seat holds this now, and knows what it knew
-pub record Holds (v w : View HuntPart) (p : Post HuntPart) : Type 0 where
-  pub post : w.post ≡ p
-  pub lanes : w.lanes ≡ v.lanes
-  pub front : w.front ≡ v.front
+use Rattle.pq_nodes.specs.Views.{guard, refilled, AreOthers}
+use Rattle.pq_nodes.specs.Passes.{ComesTo}
+use Rattle.pq_hunt.specs.Views.{idle, with_guards, with_size}
+use Rattle.pq_nodes.specs.Parts.{guarding}
+use Rattle.pq_hunt.specs.Steps.{first_entry}
+use Rattle.pq_hunt.specs.NodeParts.{hunt_nodes}
 
 -- the locks of these guards' nodes, the last one first, before these locks
 abbrev pub locks_of : List Guard → List ℕ → List ℕ
@@ -40,39 +39,13 @@ abbrev pub post_with : ℕ → Bool → Option Entry → List (ℕ × ℕ) → H
 post_with number heap flight owed own =
     record { number = number; locks = locks_of own.guards (heap_locks heap); flight = flight; owed = owed; own = own }
 
--- a lock of a node was taken: behind its other guards the view has this one
-abbrev pub with_node : Post HuntPart → Guard → Post HuntPart
-with_node p g = with_lock p (lock_of g.node) (with_guards p.own (p.own.guards ++ g ∷ []))
-
--- the seat took the node's lock, and its view names the node's word, and what the node counts as by it
-abbrev pub TookNode : View HuntPart → View HuntPart → ℕ → Type 0
-TookNode v w node = (word : ℕ) × (counted : Node) × Means counted word ×
-    Holds v w (with_node v.post (guard node word counted))
-
+-- the heap's lock was taken, and the view names the size; it was freed
 abbrev pub TookHeap : View HuntPart → View HuntPart → ℕ → Type 0
 TookHeap v w capacity = (size : ℕ) × (size ≤ capacity) ×
-    Holds v w (with_lock v.post heap_lock (with_size v.post.own size size))
-
--- a lock was freed
-abbrev pub without_node : Post HuntPart → ℕ → Post HuntPart
-without_node p node = without_lock p (lock_of node) (with_guards p.own (without_guard (lock_of node) p.own.guards))
+    ComesTo v w (with_lock v.post heap_lock (with_size v.post.own size size))
 
 abbrev pub without_heap : Post HuntPart → Post HuntPart
 without_heap p = without_lock p heap_lock (with_size p.own 0 0)
-
--- a guard of the view is of this node
-pub record IsGuarded (v : View HuntPart) (node : ℕ) : Type 0 where
-  pub guard : Guard
-  pub has : Contains v.post.own.guards guard
-  pub is : guard.node ≡ node
-
--- and the node counts as its word says
-pub record IsFreeable (v : View HuntPart) (node : ℕ) : Type 0 where
-  pub guard : Guard
-  pub has : Contains v.post.own.guards guard
-  pub is : guard.node ≡ node
-  pub means : Means guard.counted guard.stored
-  pub root : node ≡ 1 → v.post.owed ≡ []
 
 -- The heap's lock and the next node's are held, the size is as it counted, and no insert of the seat is in flight
 pub record CanLeaf (v : View HuntPart) (node : ℕ) : Type 0 where
@@ -151,7 +124,7 @@ pub record CanFill (capacity : ℕ) (v : View HuntPart) (hole : ℕ) : Type 0 wh
 
 -- the post of a seat that filled its hole
 abbrev pub filled : Post HuntPart → ℕ → Post HuntPart
-filled p word = guarding p (refilled word (Available (first_entry p.own.guards)) p.own.guards)
+filled p word = guarding hunt_nodes p (refilled word (Available (first_entry p.own.guards)) p.own.guards)
 
 -- The seat's insert is in flight, and it looks for its entry at this node, which counts as its word says
 pub record CanFind (v : View HuntPart) (node : ℕ) : Type 0 where
@@ -189,14 +162,6 @@ pub record IsPaired (v : View HuntPart) (number : ℕ) (e : Entry) (parent child
   pub post : v.post ≡ guarding_flight number e child
       (guard parent above (Available other) ∷ guard child mine (Busy number e) ∷ [])
 
--- Two different nodes' locks are held, whose words say what they count as
-pub record HoldsTwo (v : View HuntPart) (first second : ℕ) : Type 0 where
-  pub differ : first ≢ second
-  pub first_held : Contains v.post.locks (lock_of first)
-  pub second_held : Contains v.post.locks (lock_of second)
-  pub first_freeable : IsFreeable v first
-  pub second_freeable : IsFreeable v second
-
 -- Both locks were taken, the parent's first, and the view names both words and what the nodes count as by them
 pub record TookPair (v w : View HuntPart) (number : ℕ) (e : Entry) (parent child : ℕ) : Type 0 where
   pub above : ℕ
@@ -205,7 +170,7 @@ pub record TookPair (v w : View HuntPart) (number : ℕ) (e : Entry) (parent chi
   pub lower : Node
   pub upper_means : Means upper above
   pub lower_means : Means lower below
-  pub holds : Holds v w (guarding_flight number e child (guard parent above upper ∷ guard child below lower ∷ []))
+  pub holds : ComesTo v w (guarding_flight number e child (guard parent above upper ∷ guard child below lower ∷ []))
 
 -- A remover that holds the heap's lock, and guards these nodes. It owes these letters, and the size is stored and
 -- counts as these
@@ -245,12 +210,7 @@ IsHolding v guards = v.post ≡ sifting v.post.number guards
 
 -- after a part of its turn it holds these
 abbrev pub Leaves : View HuntPart → View HuntPart → List Guard → Type 0
-Leaves v w guards = Holds v w (sifting v.post.number guards)
-
--- no guard is of this node
-abbrev pub AreOthers : ℕ → List Guard → Type 0
-AreOthers node [] = Unit {0}
-AreOthers node (g ∷ gs) = (g.node ≢ node) × AreOthers node gs
+Leaves v w guards = ComesTo v w (sifting v.post.number guards)
 
 -- a number that a node's entry is compared by: one above all entries' where the node is Empty
 abbrev pub IsRank : Node → ℕ → Type 0

@@ -8,7 +8,7 @@ use Rattle.pq_hunt.specs.declared.nodes.Node.{Node}
 use Rattle.pq_hunt.specs.declared.nodes.Node.TheVariants.{Empty}
 use Rattle.pq_hunt.specs.declared.views.HuntPart.{HuntPart}
 use Rattle.pq_hunt.specs.Nodes.{node}
-use Rattle.pq_hunt.specs.Ties.{words_in}
+use Rattle.pq_nodes.specs.Facts.{words_in}
 use Rattle.pq_hunt.specs.Words.{Means}
 use Rattle.pq_hunt.specs.Views.{idle}
 

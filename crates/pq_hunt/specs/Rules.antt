@@ -5,7 +5,8 @@ use Rattle.pq_words.specs.declared.letters.Letter.TheVariants.{Nothing, At, Back
 use Rattle.pq_seats.specs.Rules.{Rule}
 use Rattle.pq_hunt.specs.declared.views.HuntPart.{HuntPart}
 use Rattle.pq_hunt.specs.Layout.{is_lock, word_count}
-use Rattle.pq_hunt.specs.Views.{idle, IsLockTaken, freed}
+use Rattle.pq_hunt.specs.NodeParts.{IsLockTaken, freed}
+use Rattle.pq_hunt.specs.Views.{idle}
 use Rattle.pq_hunt.specs.Batches.{batch_of, after_draw}
 use Rattle.pq_hunt.specs.Ties.{HuntTied}
 

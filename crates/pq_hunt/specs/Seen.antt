@@ -3,10 +3,10 @@ use Rattle.std.specs.Prelude.{◌≡◌, ◌≢◌, ℕ, ◌≤◌, slice_index,
 use Rattle.pq_seats.specs.declared.views.Limits.{Limits}
 use Rattle.pq_seats.specs.declared.views.View.{View}
 use Rattle.pq_seats.specs.Rules.{Table, Holds, Stands}
-use Rattle.pq_hunt.specs.declared.views.Guard.{Guard}
+use Rattle.pq_hunt.specs.Guards.{Guard}
 use Rattle.pq_hunt.specs.declared.views.HuntPart.{HuntPart}
 use Rattle.pq_hunt.specs.Nodes.{node}
-use Rattle.pq_hunt.specs.Layout.{lock_of, word_of}
+use Rattle.pq_nodes.specs.Layout.{lock_of, word_of}
 use Rattle.pq_hunt.specs.Words.{Means}
 use Rattle.pq_hunt.specs.Rules.{hunt_rule}
 

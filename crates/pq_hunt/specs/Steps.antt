@@ -1,5 +1,5 @@
 -- What the heap's own steps on its table tell of the seat that made them.
-use Rattle.std.specs.Prelude.{◌≡◌, ◌≢◌, ◌≤◌, ℕ, ◌/◌, true, List, [], ◌∷◌, Contains, Some}
+use Rattle.std.specs.Prelude.{◌≡◌, ◌≢◌, ℕ, ◌/◌, true, List, [], ◌∷◌, Contains, Some}
 use Rattle.atomic_table.specs.Table.{Me, Step}
 use Rattle.pq_words.specs.declared.entries.Entry.{Entry}
 use Rattle.pq_words.specs.declared.heap_words.Tag.TheVariants as tags
@@ -7,15 +7,15 @@ use Rattle.pq_words.specs.HeapWords.{heap_number}
 use Rattle.pq_seats.specs.declared.views.Post.{Post}
 use Rattle.pq_seats.specs.declared.views.View.{View}
 use Rattle.pq_seats.specs.Views.{with_post}
-use Rattle.pq_seats.specs.Laws.{history_limit}
 use Rattle.pq_hunt.specs.declared.nodes.Node.TheVariants.{Empty, Available, Busy}
-use Rattle.pq_hunt.specs.declared.views.Guard.{Guard}
+use Rattle.pq_hunt.specs.Guards.{Guard}
 use Rattle.pq_hunt.specs.declared.views.HuntPart.{HuntPart}
-use Rattle.pq_hunt.specs.Layout.{heap_lock, word_of}
-use Rattle.pq_hunt.specs.Nodes.{used}
+use Rattle.pq_nodes.specs.Layout.{word_of}
 use Rattle.pq_hunt.specs.Words.{Means}
-use Rattle.pq_hunt.specs.Views.{restored, exchanged, exchanged_third, refilled}
+use Rattle.pq_nodes.specs.Views.{exchanged, exchanged_third, refilled}
 use Rattle.pq_hunt.specs.Batches.{entry_at}
+use Rattle.pq_nodes.specs.Parts.{guarding}
+use Rattle.pq_hunt.specs.NodeParts.{hunt_nodes}
 
 -- the node of the first guard, and what it counts as
 abbrev pub first_node : List Guard → ℕ
@@ -26,24 +26,9 @@ abbrev pub first_entry : List Guard → Entry
 first_entry [] = entry_at Empty
 first_entry (g ∷ gs) = entry_at g.counted
 
--- no two of these guards' nodes are Busy of one owner
-abbrev pub HaveOwnersApart : List Guard → Type 0
-HaveOwnersApart guards = (g f : Guard) (o : ℕ) (e d : Entry) → Contains guards g → Contains guards f
-    → g.counted ≡ Busy o e
-    → f.counted ≡ Busy o d → g.node ≡ f.node
-
--- by a seat that holds the heap's lock: none of the nodes that it guards is Empty, from the root up to the size
-abbrev pub AreUsed : Post HuntPart → Type 0
-AreUsed p = Contains p.locks heap_lock → (g : Guard) → Contains p.own.guards g → 1 ≤ g.node
-    → g.node ≤ p.own.size_counted → used g.counted ≡ 1
-
 -- the word of a Busy node
 abbrev pub busy_number : ℕ → Entry → ℕ
 busy_number owner e = heap_number (record { tag = tags.Busy; owner = owner; entry = e })
-
--- the post whose guards are these
-abbrev pub guarding : Post HuntPart → List Guard → Post HuntPart
-guarding p guards = record p { own = record p.own { guards = guards } }
 
 -- the size was stored
 abbrev pub sizing : Post HuntPart → ℕ → Post HuntPart
@@ -75,22 +60,12 @@ missing p = record p { own = record p.own { lettered = true } }
 
 module _ (st : Step (Unit {0})) (m : Me (Unit {0}) (View HuntPart)) (found : ℕ)
     (m' : Me (Unit {0}) (View HuntPart)) where
-  -- the word of a guarded node, and the size, are as the view names them. No two of the guarded nodes are Busy of one
-  -- owner, and none up to the size is Empty
-  abbrev pub looks : Type 0
-  looks = (m' ≡ m) × ((g : Guard) → Contains m.0.post.own.guards g → word_of g.node ≡ st.word → found ≡ g.stored)
-      × HaveOwnersApart m.0.post.own.guards × AreUsed m.0.post
-
+  -- the size is as the view names it
   abbrev pub looks_at_size : Type 0
   looks_at_size = (m' ≡ m) × (found ≡ m.0.post.own.size_stored)
 
   abbrev pub stores_size : Type 0
   stores_size = m' ≡ (with_post m.0 (sizing m.0.post st.first), m.1)
-
-  -- what the seat has seen of the history is no longer than a history can be
-  abbrev pub stores : Type 0
-  stores = (m' ≡ (with_post m.0 (guarding m.0.post (restored st.word st.first m.0.post.own.guards)), m.1))
-      × (m.0.front ≤ history_limit)
 
   abbrev pub leafs : Type 0
   leafs = (e : Entry) → Means (Busy m.0.post.number e) st.first → m' ≡ (with_post m.0 (leafed m.0.post st.first e), m.1)
@@ -99,14 +74,14 @@ module _ (st : Step (Unit {0})) (m : Me (Unit {0}) (View HuntPart)) (found : ℕ
   climbs = m' ≡ (with_post m.0 (climbed m.0.post), m.1)
 
   abbrev pub sifts : Type 0
-  sifts = m' ≡ (with_post m.0 (guarding m.0.post (exchanged m.0.post.own.guards)), m.1)
+  sifts = m' ≡ (with_post m.0 (guarding hunt_nodes m.0.post (exchanged m.0.post.own.guards)), m.1)
 
   abbrev pub sifts_third : Type 0
-  sifts_third = m' ≡ (with_post m.0 (guarding m.0.post (exchanged_third m.0.post.own.guards)), m.1)
+  sifts_third = m' ≡ (with_post m.0 (guarding hunt_nodes m.0.post (exchanged_third m.0.post.own.guards)), m.1)
 
   abbrev pub fills : Type 0
   fills = m' ≡ (
-    with_post m.0 (guarding m.0.post
+    with_post m.0 (guarding hunt_nodes m.0.post
         (refilled st.first (Available (first_entry m.0.post.own.guards)) m.0.post.own.guards)),
     m.1,
   )

@@ -19,7 +19,8 @@ use Rattle.pq_hunt.specs.declared.remove.Taken.{Taken}
 use Rattle.pq_hunt.specs.declared.remove.Taken.TheVariants as takes
 use Rattle.pq_hunt.specs.declared.views.HuntPart.{HuntPart}
 use Rattle.pq_hunt.specs.declared.nodes.Node.TheVariants.{Empty, Hole}
-use Rattle.pq_hunt.specs.Views.{idle, guard}
+use Rattle.pq_nodes.specs.Views.{guard}
+use Rattle.pq_hunt.specs.Views.{idle}
 use Rattle.pq_hunt.specs.Passes.{at_hole, removing, saying, IsUsed, AreApart}
 
 -- a removal takes nothing of an entry with its key at this limit or above it, and may else take it

@@ -1,5 +1,5 @@
 -- What ties the heap's words, the seats' posts and the multiset together, between any two steps.
-use Rattle.std.specs.Prelude.{◌≡◌, ◌≢◌, ◌⊎◌, ℕ, ◌<◌, ◌≤◌, true, List, [], ◌∷◌, length, slice_index, Some}
+use Rattle.std.specs.Prelude.{◌≡◌, ◌≢◌, ◌⊎◌, ℕ, ◌<◌, ◌≤◌, true, List, [], length, slice_index, Some}
 use Rattle.std.specs.Prelude.{None, Contains}
 use mathlib.Core.Option.{some}
 use lib.ListN.{get_elem?}
@@ -8,39 +8,15 @@ use Rattle.pq_model.specs.Limits.{max_seats}
 use Rattle.pq_seats.specs.declared.views.Limits.{Limits}
 use Rattle.pq_seats.specs.declared.views.Post.{Post}
 use Rattle.pq_seats.specs.Letters.{back, letter_count}
-use Rattle.pq_nodes.specs.Guards.{Kind, IsGuarded}
+use Rattle.pq_nodes.specs.Facts.{NodeFacts}
 use Rattle.pq_hunt.specs.declared.nodes.Node.{Node}
-use Rattle.pq_hunt.specs.declared.nodes.Node.TheVariants.{Empty}
-use Rattle.pq_hunt.specs.declared.views.Guard.{Guard}
+use Rattle.pq_hunt.specs.Guards.{Guard}
 use Rattle.pq_hunt.specs.declared.views.HuntPart.{HuntPart}
-use Rattle.pq_hunt.specs.Layout.{heap_lock, size_word, lock_of, word_of, word_count}
-use Rattle.pq_hunt.specs.Words.{Means}
+use Rattle.pq_hunt.specs.Layout.{heap_lock, size_word, word_count}
 use Rattle.pq_hunt.specs.Flights.{Flight}
 use Rattle.pq_hunt.specs.Letters.{IsTold}
 use Rattle.pq_hunt.specs.Facts.{HeapFacts}
-
--- the heap's nodes as guarded words
-abbrev pub kind : Kind (Post HuntPart) Guard Node
-kind = record {
-  guards = λ p. p.own.guards;
-  place = λ g. g.node;
-  stored = λ g. g.stored;
-  counted = λ g. g.counted;
-  empty = Empty;
-  means = Means;
-}
-
--- the lock word and the word of each node
-abbrev pub locks_in : List ℕ → ℕ → ℕ
-locks_in words i = slice_index words (lock_of i)
-
-abbrev pub words_in : List ℕ → ℕ → ℕ
-words_in words i = slice_index words (word_of i)
-
--- no two of the guards are of one node
-abbrev pub IsApart : List Guard → Type 0
-IsApart [] = Unit {0}
-IsApart (g ∷ gs) = ((h : Guard) → Contains gs h → h.node ≢ g.node) × IsApart gs
+use Rattle.pq_hunt.specs.NodeParts.{hunt_nodes}
 
 -- What a seat's post says of its insert. It is in flight from the step that made a node Busy until the seat has its
 -- call. Till then either it waits for its place in the history, its entry Busy where the seat looks for it or above;
@@ -58,20 +34,13 @@ pub record HuntTied (k : Limits) (words : List ℕ) (posts : List (Post HuntPart
   pub size : ℕ
   pub of : ℕ → Flight
   pub nodes : List Node
-  -- a node that is not locked counts as its word says, and one that a view has a guard of counts as the guard says
-  pub guarded : IsGuarded kind (locks_in words) (words_in words) posts nodes
+  -- the nodes count as their words say, and those that are locked as the views name them
+  pub tree : NodeFacts hunt_nodes words posts nodes
   pub facts : HeapFacts k.seats k.capacity size of nodes m
   -- so does the size
   pub free : slice_index words heap_lock ≡ 0 → slice_index words size_word ≡ size
   pub held : (j : ℕ) (p : Post HuntPart) → get_elem? posts j ≡ some p → Contains p.locks heap_lock
       → (p.own.size_counted ≡ size) × (slice_index words size_word ≡ p.own.size_stored)
-  -- a guard is of a node whose lock the seat holds
-  pub holds : (j : ℕ) (p : Post HuntPart) (g : Guard) → get_elem? posts j ≡ some p → Contains p.own.guards g
-      → Contains p.locks (lock_of g.node)
-  -- and the seat has a guard for each node whose lock it holds
-  pub named : (j : ℕ) (p : Post HuntPart) (i : ℕ) → get_elem? posts j ≡ some p → Contains p.locks (lock_of i)
-      → (g : Guard) × Contains p.own.guards g × (g.node ≡ i)
-  pub apart : (j : ℕ) (p : Post HuntPart) → get_elem? posts j ≡ some p → IsApart p.own.guards
   pub told : (j : ℕ) (p : Post HuntPart) → get_elem? posts j ≡ some p → 0 < p.number → IsInserting words posts of p
   -- who waits has a seat
   pub borne : (n : ℕ) → 1 ≤ (of n).waiting

@@ -12,7 +12,8 @@ use Rattle.pq_seats.specs.Views.{empty_post}
 use Rattle.pq_seats.specs.Passes.{limits_of, view_of, known, IsInformed}
 use Rattle.pq_hunt.specs.declared.views.HuntPart.{HuntPart}
 use Rattle.pq_hunt.specs.Views.{idle}
-use Rattle.pq_hunt.specs.Passes.{Holds, in_flight}
+use Rattle.pq_nodes.specs.Passes.{ComesTo}
+use Rattle.pq_hunt.specs.Passes.{in_flight}
 
 -- The insert is done at this place, and the seat holds nothing
 pub record IsDone {R : Type 0} (q : Shared R HuntPart) (p p' : SeatPass R HuntPart) (e : Entry)
@@ -25,7 +26,7 @@ pub record IsDone {R : Type 0} (q : Shared R HuntPart) (p p' : SeatPass R HuntPa
 pub record IsAt {R : Type 0} (q : Shared R HuntPart) (p p' : SeatPass R HuntPart) (e : Entry) (node : ℕ) : Type 0 where
   pub low : 1 ≤ node
   pub high : node ≤ (limits_of q).capacity
-  pub flies : Holds (view_of p) (view_of p') (in_flight p.number e node)
+  pub flies : ComesTo (view_of p) (view_of p') (in_flight p.number e node)
 
 -- A turn breaks with the place where the insert is done, or continues with the node to look at next
 abbrev pub IsTurned : {R : Type 0} → Shared R HuntPart → SeatPass R HuntPart → SeatPass R HuntPart → Entry

@@ -6,38 +6,24 @@ ghost use Rattle.pq_seats.specs.Passes.{limits_of, view_of, known, Belongs, IsSa
 ghost use Rattle.pq_seats.specs.Views.{with_post};
 ghost use Rattle.pq_seats.specs.Laws.{history_limit};
 ghost use Rattle.pq_hunt.specs.declared.nodes.Node.TheVariants.{Busy};
-ghost use Rattle.pq_hunt.specs.declared.views.Guard.{Guard};
+ghost use Rattle.pq_hunt.specs.Guards.{Guard};
 ghost use Rattle.pq_hunt.specs.Layout as layout;
 ghost use Rattle.pq_hunt.specs.Words.{Means};
-ghost use Rattle.pq_hunt.specs.Views.{restored, exchanged, exchanged_third};
-ghost use Rattle.pq_hunt.specs.Steps.{HaveOwnersApart, AreUsed, busy_number, guarding, sizing, leafed, climbed};
+ghost use Rattle.pq_nodes.specs.Views.{restored, exchanged, exchanged_third};
+ghost use Rattle.pq_nodes.specs.Parts.{guarding};
+ghost use Rattle.pq_hunt.specs.NodeParts.{HaveOwnersApart, AreUsed};
+ghost use Rattle.pq_hunt.specs.Steps.{busy_number, sizing, leafed, climbed};
 ghost use Rattle.pq_hunt.specs.Steps.{looking, missing};
-ghost use Rattle.pq_hunt.specs.Passes.{IsGuarded, CanLeaf, CanClimb, CanSift, CanSiftRight, CanFill, CanFind, filled};
+ghost use Rattle.pq_nodes.specs.Parts.{HasGuard};
+ghost use Rattle.pq_hunt.specs.Passes.{CanLeaf, CanClimb, CanSift, CanSiftRight, CanFill, CanFind, filled};
 ghost use Rattle.pq_hunt.specs.Tables.{IsHeapTable};
+ghost use Rattle.pq_hunt.specs.NodeParts.{hunt_nodes};
+ghost use Rattle.pq_nodes.specs.Layout as node_layout;
 
-use crate::layout::{SIZE, word_of};
-use crate::plays::{
-    Climb, Fill, Find, FindAtRoot, Leaf, Look, LookAtSize, Sift, SiftRight, Store, StoreSize,
-};
+use crate::layout::SIZE;
+use crate::plays::{Climb, Fill, Find, FindAtRoot, Leaf, LookAtSize, Sift, SiftRight, StoreSize};
 use crate::{HuntPass, HuntTable};
-
-/// The word of a node whose lock the seat holds.
-pub(crate) fn look(table: &HuntTable, pass: &mut HuntPass, node: u32) -> u64
-    requires table { IsHeapTable table.now }
-    requires own { Belongs table.now pass.old }
-    requires node { (1 ≤ node) × (node ≤ (limits_of table.now).capacity) }
-    ensures own { Belongs table.now pass.new }
-    ensures same { IsSamePass pass.old pass.new }
-    ensures view { view_of pass.new ≡ view_of pass.old }
-    ensures word { (g : Guard) → Contains (view_of pass.old).post.own.guards g → g.node ≡ node → result ≡ g.stored }
-    ensures apart { HaveOwnersApart (view_of pass.old).post.own.guards }
-    ensures used { AreUsed (view_of pass.old).post }
-{
-    table
-        .table
-        .shared
-        .load::<Look>(&mut pass.seat, word_of(node) as usize)
-}
+use pq_nodes::word_of;
 
 /// The size, by a seat that holds the heap's lock.
 pub(crate) fn look_at_size(table: &HuntTable, pass: &mut HuntPass) -> u64
@@ -68,24 +54,6 @@ pub(crate) fn store_size(table: &HuntTable, pass: &mut HuntPass, size: u32)
         .table
         .shared
         .store::<StoreSize>(&mut pass.seat, SIZE as usize, u64::from(size));
-}
-
-/// Stores the word of a node that counts as it did.
-pub(crate) fn store(table: &HuntTable, pass: &mut HuntPass, node: u32, word: u64)
-    requires table { IsHeapTable table.now }
-    requires own { Belongs table.now pass.old }
-    requires node { (1 ≤ node) × (node ≤ (limits_of table.now).capacity) }
-    requires guarded { IsGuarded (view_of pass.old) node }
-    ensures own { Belongs table.now pass.new }
-    ensures same { IsSamePass pass.old pass.new }
-    ensures view { view_of pass.new ≡ with_post (view_of pass.old)
-        (guarding (view_of pass.old).post (restored (layout.word_of node) word (view_of pass.old).post.own.guards)) }
-    ensures small { (view_of pass.old).front ≤ history_limit }
-{
-    table
-        .table
-        .shared
-        .store::<Store>(&mut pass.seat, word_of(node) as usize, word);
 }
 
 /// Makes the next node Busy with this entry, which the word says.
@@ -132,7 +100,7 @@ pub(crate) fn sift_left(table: &HuntTable, pass: &mut HuntPass, hole: u32, word:
     ensures own { Belongs table.now pass.new }
     ensures same { IsSamePass pass.old pass.new }
     ensures view { view_of pass.new ≡
-        with_post (view_of pass.old) (guarding (view_of pass.old).post (exchanged (view_of pass.old).post.own.guards)) }
+        with_post (view_of pass.old) (guarding hunt_nodes (view_of pass.old).post (exchanged (view_of pass.old).post.own.guards)) }
 {
     table
         .table
@@ -149,7 +117,7 @@ pub(crate) fn sift_right(table: &HuntTable, pass: &mut HuntPass, hole: u32, word
     ensures own { Belongs table.now pass.new }
     ensures same { IsSamePass pass.old pass.new }
     ensures view { view_of pass.new ≡
-        with_post (view_of pass.old) (guarding (view_of pass.old).post
+        with_post (view_of pass.old) (guarding hunt_nodes (view_of pass.old).post
         (exchanged_third (view_of pass.old).post.own.guards)) }
 {
     table

@@ -11,17 +11,19 @@ ghost use Rattle.pq_seats.specs.Passes.{limits_of, view_of, known, Belongs, IsSa
 ghost use Rattle.pq_hunt.specs.declared.nodes.Node.{Node};
 ghost use Rattle.pq_hunt.specs.declared.nodes.Node.TheVariants.{Busy};
 ghost use Rattle.pq_hunt.specs.Words.{Means};
-ghost use Rattle.pq_hunt.specs.Views.{idle, guard};
+ghost use Rattle.pq_nodes.specs.Views.{guard};
+ghost use Rattle.pq_hunt.specs.Views.{idle};
 ghost use Rattle.pq_hunt.specs.Steps.{busy_number, missing};
-ghost use Rattle.pq_hunt.specs.Passes.{Holds, in_flight, guarding_flight, IsPaired, TookPair};
+ghost use Rattle.pq_nodes.specs.Passes.{ComesTo};
+ghost use Rattle.pq_hunt.specs.Passes.{in_flight, guarding_flight, IsPaired, TookPair};
 ghost use Rattle.pq_hunt.specs.Turns.{IsTurned, IsDone};
 ghost use Rattle.pq_hunt.specs.Tables.{IsHeapTable};
 
-use crate::accesses::{climb_to, find, find_at_root, look, store};
-use crate::locks::{free_node, free_two, take_node};
+use crate::accesses::{climb_to, find, find_at_root};
 use crate::{HuntPass, HuntTable};
 use crossbeam_utils::Backoff;
 use pq_model::Act;
+use pq_nodes::{free_node, free_two, look, store, take_node};
 use pq_words::{Entry, HeapWord, Letter, Tag};
 use std::ops::ControlFlow;
 use std::sync::Wait;
@@ -92,7 +94,7 @@ fn rise(
         (raw_of e ≤ raw_of p.other) }
     ensures own { Belongs table.now pass.new }
     ensures same { IsSamePass pass.old pass.new }
-    ensures flies { Holds (view_of pass.old) (view_of pass.new) (in_flight pass.old.number e parent) }
+    ensures flies { ComesTo (view_of pass.old) (view_of pass.new) (in_flight pass.old.number e parent) }
 {
     climb_to(table, pass, parent, mine);
     store(table, pass, child, above);

@@ -9,15 +9,17 @@ ghost use Rattle.pq_seats.specs.Views.{empty_post};
 ghost use Rattle.pq_seats.specs.Passes.{limits_of, view_of, known, Belongs, IsSamePass, IsInformed};
 ghost use Rattle.pq_hunt.specs.Views.{idle};
 ghost use Rattle.pq_hunt.specs.Steps.{busy_number};
-ghost use Rattle.pq_hunt.specs.Passes.{Holds, at_heap, in_flight};
+ghost use Rattle.pq_nodes.specs.Passes.{ComesTo};
+ghost use Rattle.pq_hunt.specs.Passes.{at_heap, in_flight};
 ghost use Rattle.pq_hunt.specs.Tables.{IsHeapTable};
 
 use crate::accesses::{look_at_size, make_busy, store_size};
 use crate::climb::climb;
-use crate::locks::{free_heap, free_node, take_heap, take_node};
+use crate::locks::{free_heap, take_heap};
 use crate::{HuntPass, HuntTable};
 use pq_api::Inserted;
 use pq_model::{Act, Receipt};
+use pq_nodes::{free_node, take_node};
 use pq_words::{Entry, HeapWord, Tag};
 use std::sync::Wait;
 
@@ -29,7 +31,7 @@ pub(crate) fn begin<W: Wait>(table: &HuntTable, rt: &W, pass: &mut HuntPass) -> 
     ensures own { Belongs table.now pass.new }
     ensures same { IsSamePass pass.old pass.new }
     ensures size { result ≤ (limits_of table.now).capacity }
-    ensures begun { Holds (view_of pass.old) (view_of pass.new) (at_heap pass.old.number result) }
+    ensures begun { ComesTo (view_of pass.old) (view_of pass.new) (at_heap pass.old.number result) }
 {
     take_heap(table, rt, pass);
     look_at_size(table, pass) as u32
@@ -69,7 +71,7 @@ fn take_leaf<W: Wait>(
     requires word { word ≡ busy_number pass.old.number e }
     ensures own { Belongs table.now pass.new }
     ensures same { IsSamePass pass.old pass.new }
-    ensures flies { Holds (view_of pass.old) (view_of pass.new) (in_flight pass.old.number e leaf) }
+    ensures flies { ComesTo (view_of pass.old) (view_of pass.new) (in_flight pass.old.number e leaf) }
 {
     take_node(table, rt, pass, leaf);
     store_size(table, pass, leaf);

@@ -24,4 +24,4 @@ pub use nodes::Node;
 pub use queue::HuntHeap;
 pub(crate) use rule::HuntTable;
 pub use rule::{HuntPass, HuntRule};
-pub use views::{Guard, HuntPart};
+pub use views::HuntPart;

@@ -1,18 +1,11 @@
 //! The heap's own steps on its table.
-ghost use Rattle.pq_hunt.specs.Steps.{looks, looks_at_size, stores_size, stores, leafs, climbs, sifts, sifts_third};
+ghost use Rattle.pq_hunt.specs.Steps.{looks_at_size, stores_size, leafs, climbs, sifts, sifts_third};
 ghost use Rattle.pq_hunt.specs.Steps.{fills};
 ghost use Rattle.pq_hunt.specs.Steps.{finds, finds_at_root};
 
 use crate::HuntPart;
 use atomic_table::Play;
 use pq_seats::View;
-
-/// A load of a node's word, under its lock.
-pub(crate) struct Look;
-
-impl Play<(), View<HuntPart>> for Look {
-    ghost then = { looks };
-}
 
 /// A load of the size, under its lock.
 pub(crate) struct LookAtSize;
@@ -26,13 +19,6 @@ pub(crate) struct StoreSize;
 
 impl Play<(), View<HuntPart>> for StoreSize {
     ghost then = { stores_size };
-}
-
-/// A store of a node's word, under its lock. The node counts as it did.
-pub(crate) struct Store;
-
-impl Play<(), View<HuntPart>> for Store {
-    ghost then = { stores };
 }
 
 /// The store that makes a new leaf Busy.

@@ -12,7 +12,7 @@ ghost use Rattle.pq_hunt.specs.Tables.{IsHeapTable};
 ghost use Rattle.pq_hunt.specs.Queues.{SayNodes};
 
 use crate::insert::insert;
-use crate::layout::{word_count, word_of};
+use crate::layout::word_count;
 use crate::remove::{remove, remove_below};
 use crate::{HuntPass, HuntTable};
 use atomic_table::Closed as ClosedTable;
@@ -22,6 +22,7 @@ use pq_api::{
 };
 use pq_io::NoMemory;
 use pq_model::{MAX_CAPACITY, MAX_SEATS};
+use pq_nodes::word_of;
 use pq_seats::Shared;
 use pq_words::{Entry, HeapWord, Tag};
 use std::alloc::Global;

@@ -15,18 +15,21 @@ ghost use Rattle.pq_hunt.specs.declared.nodes.Node.TheVariants.{Busy};
 ghost use Rattle.pq_hunt.specs.Words.{Means, node_of};
 ghost use Rattle.pq_hunt.specs.Batches.{flight_at};
 ghost use Rattle.pq_hunt.specs.Marks.{IsRemoval, MayGet};
-ghost use Rattle.pq_hunt.specs.Views.{idle, guard};
-ghost use Rattle.pq_hunt.specs.Passes.{Holds, at_heap, at_hole, removing, saying, IsUsed, AreApart, telling};
+ghost use Rattle.pq_nodes.specs.Views.{guard};
+ghost use Rattle.pq_hunt.specs.Views.{idle};
+ghost use Rattle.pq_nodes.specs.Passes.{ComesTo};
+ghost use Rattle.pq_hunt.specs.Passes.{at_heap, at_hole, removing, saying, IsUsed, AreApart, telling};
 ghost use Rattle.pq_hunt.specs.Takes.{IsBarred, MayGetRoot, IsAnswered, IsPlaced, IsOpened, IsTaken};
 ghost use Rattle.pq_hunt.specs.Tables.{IsHeapTable};
 
-use crate::accesses::{look, store, store_size};
+use crate::accesses::store_size;
 use crate::insert::begin;
-use crate::locks::{free_heap, free_node, take_node};
+use crate::locks::free_heap;
 use crate::sift::sift;
 use crate::{HuntPass, HuntTable};
 use pq_api::{Below, Removed};
 use pq_model::{Act, Receipt};
+use pq_nodes::{free_node, look, store, take_node};
 use pq_words::{Entry, HeapWord, Letter, Tag};
 use std::sync::Wait;
 
@@ -58,7 +61,7 @@ fn take_root<W: Wait>(table: &HuntTable, rt: &W, pass: &mut HuntPass, size: u32)
     ensures own { Belongs table.now pass.new }
     ensures same { IsSamePass pass.old pass.new }
     ensures used { IsUsed result }
-    ensures took { Holds (view_of pass.old) (view_of pass.new)
+    ensures took { ComesTo (view_of pass.old) (view_of pass.new)
         (removing pass.old.number [] size size (saying 1 result ∷ [])) }
 {
     take_node(table, rt, pass, 1);
@@ -81,7 +84,7 @@ fn take_last<W: Wait>(
     ensures same { IsSamePass pass.old pass.new }
     ensures used { IsUsed result }
     ensures apart { AreApart (node_of root) (node_of result) }
-    ensures took { Holds (view_of pass.old) (view_of pass.new)
+    ensures took { ComesTo (view_of pass.old) (view_of pass.new)
         (removing pass.old.number [] size size (saying 1 root ∷ saying size result ∷ [])) }
 {
     take_node(table, rt, pass, size);
@@ -126,7 +129,7 @@ fn free_root(table: &HuntTable, pass: &mut HuntPass, root: HeapWord, word: u64, 
         (guard 1 stored counted ∷ [])) }
     ensures own { Belongs table.now pass.new }
     ensures same { IsSamePass pass.old pass.new }
-    ensures rests { Holds (view_of pass.old) (view_of pass.new) (empty_post idle pass.old.number) }
+    ensures rests { ComesTo (view_of pass.old) (view_of pass.new) (empty_post idle pass.old.number) }
     ensures small { (view_of pass.old).front ≤ history_limit }
 {
     store(table, pass, 1, word);

@@ -4,18 +4,20 @@ ghost use Rattle.pq_seats.specs.Passes.{limits_of, view_of, Belongs, IsSamePass}
 ghost use Rattle.pq_seats.specs.Views.{empty_post};
 ghost use Rattle.pq_hunt.specs.declared.nodes.Node.{Node};
 ghost use Rattle.pq_hunt.specs.declared.nodes.Node.TheVariants.{Hole};
-ghost use Rattle.pq_hunt.specs.declared.views.Guard.{Guard};
+ghost use Rattle.pq_hunt.specs.Guards.{Guard};
 ghost use Rattle.pq_hunt.specs.Order.{MayStandOver};
 ghost use Rattle.pq_hunt.specs.Words.{Means};
-ghost use Rattle.pq_hunt.specs.Views.{guard, idle};
-ghost use Rattle.pq_hunt.specs.Passes.{Holds, IsHolding, Leaves, IsRank, CanFillFirst, CanRiseLeft, AtTwo};
+ghost use Rattle.pq_nodes.specs.Views.{guard};
+ghost use Rattle.pq_hunt.specs.Views.{idle};
+ghost use Rattle.pq_nodes.specs.Passes.{ComesTo};
+ghost use Rattle.pq_hunt.specs.Passes.{IsHolding, Leaves, IsRank, CanFillFirst, CanRiseLeft, AtTwo};
 ghost use Rattle.pq_hunt.specs.Passes.{IsLeast, Sifted, at_hole};
 ghost use Rattle.pq_hunt.specs.Tables.{IsHeapTable};
 
-use crate::accesses::{fill, look, sift_left, sift_right};
-use crate::layout::{NODE_WORDS, word_count};
-use crate::locks::{free_node, take_node};
+use crate::accesses::{fill, sift_left, sift_right};
+use crate::layout::word_count;
 use crate::{HuntPass, HuntTable};
+use pq_nodes::{NODE_WORDS, free_node, look, take_node};
 use pq_words::{Entry, HeapWord, RAW_LIMIT, Tag};
 use std::sync::Wait;
 
@@ -34,7 +36,7 @@ pub(crate) fn sift<W: Wait, F: FnMut()>(
     requires gate { F.IsAlwaysCallable below_root }
     ensures own { Belongs table.now pass.new }
     ensures same { IsSamePass pass.old pass.new }
-    ensures done { Holds (view_of pass.old) (view_of pass.new) (empty_post idle pass.old.number) }
+    ensures done { ComesTo (view_of pass.old) (view_of pass.new) (empty_post idle pass.old.number) }
 {
     let capacity = capacity_of(table);
     let mut hole = 1;

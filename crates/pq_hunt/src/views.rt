@@ -1,18 +1,12 @@
 //! What a seat's view names of the heap.
 use crate::Node;
+use pq_nodes::Guard;
 use std::collections::LinkedList;
-
-/// What the view of a lock's holder says of the node under it: its word as it is stored, and what the node counts as.
-pub struct Guard {
-    pub node: u32,
-    pub stored: u64,
-    pub counted: Node,
-}
 
 /// The heap's part of a seat's view. No program makes a value of it: contracts speak of it.
 pub struct HuntPart {
     /// One for each node whose lock the seat holds, in the order in which they were taken.
-    pub guards: LinkedList<Guard>,
+    pub guards: LinkedList<Guard<Node>>,
     /// Under the heap's lock: the size as its word says.
     pub size_stored: u32,
     /// Under the heap's lock: the size as it counts.

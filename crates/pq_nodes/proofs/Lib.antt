@@ -2,4 +2,8 @@
 pub mod Ancestors
 pub mod Orders
 pub mod Written
-pub mod Locks
+pub mod Guarded
+pub mod Tables
+pub mod GuardLists
+pub mod Keeping
+pub mod Allowing

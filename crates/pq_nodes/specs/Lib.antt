@@ -2,3 +2,10 @@
 pub mod Ancestors
 pub mod Order
 pub mod Guards
+pub mod Layout
+pub mod Views
+pub mod Parts
+pub mod Facts
+pub mod NodeLaws
+pub mod Steps
+pub mod Passes

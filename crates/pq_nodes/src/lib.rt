@@ -1,3 +1,16 @@
-//! What the heap and the mound share: a tree of numbered nodes in which several removers sift at once, and nodes that
-//! are guarded by a lock word each. It has definitions and lemmas alone, and no call.
+//! What queues that are trees of locked nodes share: a tree of numbered nodes in which several removers sift at once, and
+//! nodes that are guarded by a lock word each.
 #![tactic(auto)]
+
+mod accesses;
+mod guards;
+mod layout;
+mod locks;
+mod plays;
+mod rule;
+
+pub use accesses::{look, store};
+pub use guards::Guard;
+pub use layout::{NODE_BASE, NODE_WORDS, lock_of, word_of};
+pub use locks::{free_node, free_two, take_node};
+pub use rule::NodeRule;

@@ -1,46 +1,23 @@
--- What keeps the guards, the letters and the inserts in flight where a step leaves the nodes as they are.
-use Rattle.std.proofs.Common.{◌≡◌, ℕ, ◌+◌, ◌≤◌, List, []}
-use Rattle.std.proofs.Common.{get_or, set, sym, ap, ◌∙◌, subst, arith}
+-- What keeps the inserts in flight where a step leaves the nodes as they are, and the numbers of seats.
+use Rattle.std.proofs.Common.{◌≡◌, ℕ, ◌+◌, ◌<◌, ◌≤◌, List, [], map, sym, ap, ◌∙◌, subst, arith}
 use Rattle.std.specs.Prelude.{Contains}
-use mathlib.Core.Option.{some, some-injective}
+use mathlib.Core.Option.{some}
 use lib.ListN.{get_elem?}
-use Rattle.std.proofs.lemmas.List.{get_or-set_other}
-use Rattle.pq_nodes.specs.Guards.{Kind, IsGuarded}
+use native.Mathlib.Decide.{ℕ_discrete}
+use mathlib.Core.Logic.{dite}
+use Rattle.pq_model.specs.Passes.{lane}
+use Rattle.pq_seats.specs.declared.views.Limits.{Limits}
 use Rattle.pq_seats.specs.declared.views.Post.{Post}
+use Rattle.pq_seats.specs.declared.views.View.{View}
+use Rattle.pq_seats.specs.Views.{HasFirst, lanes_of, post_of}
 use Rattle.pq_seats.specs.Letters.{letter_count}
+use Rattle.pq_seats.specs.Rules.{Table, Holds}
+use Rattle.pq_seats.proofs.Lists.{sum_two, at_unmap, first_in, lanes_of_has, numbered_once}
 use Rattle.pq_hunt.specs.Flights.{Flight}
-use Rattle.pq_hunt.specs.declared.views.Guard.{Guard}
+use Rattle.pq_hunt.specs.Guards.{Guard}
 use Rattle.pq_hunt.specs.declared.views.HuntPart.{HuntPart}
-use Rattle.pq_hunt.specs.Layout.{lock_of, word_of}
-use Rattle.pq_hunt.specs.Ties.{locks_in, words_in, IsInserting}
-
--- the nodes' locks and words are as they were, and each guard was there
-pub guarded_on : {P G N : Type 0} (k : Kind P G N) (locks locks' words words' : ℕ → ℕ) (views views' : List P) (t : List N)
-    → ((i : ℕ) → locks' i ≡ locks i) → ((i : ℕ) → words' i ≡ words i)
-    → ((j : ℕ) (q : P) (g : G) → get_elem? views' j ≡ some q → Contains (k.guards q) g
-    → (p : P) × (get_elem? views j ≡ some p) × Contains (k.guards p) g)
-    → IsGuarded k locks words views t → IsGuarded k locks' words' views' t
-guarded_on {P} {G} {N} k locks locks' words words' views views' t same_locks same_words was f = record {
-  free = λ i lt zero. subst (λ (w : ℕ). k.means (get_or t i k.empty) w) (sym (same_words i)) (f.free i lt (sym (same_locks i) ∙ zero));
-  held = λ j q g at has. let o = was j q g at has in let old = f.held j o.0 g o.1 o.2 in record {
-    within = old.within;
-    locked = λ z. old.locked (sym (same_locks (k.place g)) ∙ z);
-    stored = same_words (k.place g) ∙ old.stored;
-    counted = old.counted;
-  };
-  view = λ a b q r g h to_q to_r has_g has_h e. let u = was a q g to_q has_g in let v = was b r h to_r has_h in
-      f.view a b u.0 v.0 g h u.1 v.1 u.2 v.2 e;
-  once = λ a q g h at has_g has_h e. let u = was a q g at has_g in let v = was a q h at has_h in
-      let same : v.0 ≡ u.0 = some-injective v.0 u.0 (sym v.1 ∙ u.1) in
-      f.once a u.0 g h u.1 u.2 (subst (λ (z : P). Contains (k.guards z) h) same v.2) e;
-}
-
--- a word before the nodes
-pub same_locks : (words : List ℕ) (i x : ℕ) → i ≤ 25 → (n : ℕ) → locks_in (set words i x) n ≡ locks_in words n
-same_locks words i x low n = get_or-set_other words i (lock_of n) x 0 (λ e. omega arith)
-
-pub same_words : (words : List ℕ) (i x : ℕ) → i ≤ 25 → (n : ℕ) → words_in (set words i x) n ≡ words_in words n
-same_words words i x low n = get_or-set_other words i (word_of n) x 0 (λ e. omega arith)
+use Rattle.pq_hunt.specs.Ties.{IsInserting}
+use Rattle.pq_hunt.specs.Rules.{hunt_rule}
 
 pub no_guard : (g : Guard) → Contains {X = Guard} [] g → ⊥
 no_guard g has = let lt = has.1 in omega arith
@@ -54,3 +31,25 @@ told_on words words' posts posts' of p same f = record {
   flies = f.flies;
   rests = f.rests;
 }
+
+-- two posts with one number are one
+pub one_number : (k : Limits) (s : Table HuntPart) (h : Holds hunt_rule k s) (i j : ℕ) (p q : Post HuntPart)
+    → get_elem? (map post_of s.views) i ≡ some p → get_elem? (map post_of s.views) j ≡ some q
+    → 0 < p.number → p.number ≡ q.number → j ≡ i
+one_number k s h i j p q at to positive e =
+    let v = at_unmap post_of s.views i p at in let w = at_unmap post_of s.views j q to in
+    let n : ℕ = p.number in
+    let named : v.0.post.number ≡ n = ap (λ (z : Post HuntPart). z.number) v.2 in
+    let same : w.0.post.number ≡ n = ap (λ (z : Post HuntPart). z.number) w.2 ∙ sym e in
+    let a = subst (λ (z : ℕ). HasFirst z v.0.lanes) named ((h.each i v.0 v.1).first (λ z. omega arith)) in
+    let b = subst (λ (z : ℕ). HasFirst z w.0.lanes) same ((h.each j w.0 w.1).first (λ z. omega arith)) in
+    let one = lanes_of_has v.0.lanes (lane n a.0) (first_in n v.0.lanes a) in
+    let two = lanes_of_has w.0.lanes (lane n b.0) (first_in n w.0.lanes b) in
+    let once = h.once n in let most = numbered_once n 1 k.seats in
+    dite (ℕ_discrete j i) (λ z. z) (λ ne. let both = sum_two (λ (z : View HuntPart). lanes_of n z.lanes) s.views i j v.0 w.0 v.1 w.1 ne in absurd (omega arith))
+
+-- a seat's number is at most 16
+pub number_low : (k : Limits) (s : Table HuntPart) (h : Holds hunt_rule k s) (j : ℕ) (v : View HuntPart) → get_elem? s.views j ≡ some v → 0 < v.post.number
+    → (v.post.number ≤ k.seats) × (v.post.number ≤ 16)
+number_low k s h j v at positive = let f = h.each j v at in let a = f.first (λ z. omega arith) in let few = h.few in
+    let r = f.ranged (lane v.post.number a.0) (first_in v.post.number v.lanes a) in let high = r.1 in (high, omega arith)

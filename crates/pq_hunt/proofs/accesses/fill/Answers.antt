@@ -2,16 +2,16 @@ use Rattle.std.proofs.Common.{ℕ, ◌+◌, ◌*◌, sym, ap, ◌∙◌, subst, 
 use Rattle.atomic_table.specs.Table.{step, Allows}
 use mathlib.Core.Option.{none}
 use Rattle.pq_seats.specs.Rules.{Holds}
-use Rattle.pq_hunt.specs.Layout as layout
 use Rattle.pq_hunt.specs.Rules.{hunt_rule}
 use Rattle.pq_hunt.specs.Steps as steps
 use Rattle.pq_hunt.specs.Passes.{MayStand}
 use Rattle.pq_hunt.proofs.Moves.{may_fill}
 use Rattle.pq_hunt.proofs.accesses.fill.Goals as goal
+use Rattle.pq_nodes.specs.Layout as node_layout
 
 pub store-requires : goal.store-requires
 store-requires c =
     let k = c.args.table.now.table.shared.key in let me = c.args.pass.now.seat.me in let id = c.args.pass.now.seat.id in let own = c.requires.own in let slots = c.args.table.now.table.shared.table_id.slots in
     let size = c.args.table.now.sized.0 in let words = c.requires.table.words in let seated = own.seated.0 in let named = own.named in
     let r = c.requires.fill in
-    (own.table, omega (arith, c.word_of.ensures, c.requires.node.1), subst (λ (z : ℕ). Allows (Holds hunt_rule k) slots id me z (λ _. c.args.word) (λ _. steps.fills (step slots z c.args.word 0 none) me c.args.word)) (ap layout.word_of r.is ∙ sym c.word_of.ensures) (may_fill k slots id me r.first r.others r.hand c.args.word r.guards (λ z. omega arith) r.in_hand (subst (λ (z : ℕ). MayStand k.capacity me.0.post.own (2 * z) r.hand) (sym r.is) r.over_left) (subst (λ (z : ℕ). MayStand k.capacity me.0.post.own (2 * z + 1) r.hand) (sym r.is) r.over_right)))
+    (own.table, omega (arith, c.word_of.ensures, c.requires.node.1), subst (λ (z : ℕ). Allows (Holds hunt_rule k) slots id me z (λ _. c.args.word) (λ _. steps.fills (step slots z c.args.word 0 none) me c.args.word)) (ap node_layout.word_of r.is ∙ sym c.word_of.ensures) (may_fill k slots id me r.first r.others r.hand c.args.word r.guards (λ z. omega arith) r.in_hand (subst (λ (z : ℕ). MayStand k.capacity me.0.post.own (2 * z) r.hand) (sym r.is) r.over_left) (subst (λ (z : ℕ). MayStand k.capacity me.0.post.own (2 * z + 1) r.hand) (sym r.is) r.over_right)))

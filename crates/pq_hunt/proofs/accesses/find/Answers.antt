@@ -2,7 +2,6 @@ use Rattle.std.proofs.Common.{ℕ, sym, ap, ◌∙◌, subst, arith}
 use Rattle.atomic_table.specs.Table.{step, Allows}
 use mathlib.Core.Option.{none}
 use Rattle.pq_seats.specs.Rules.{Holds}
-use Rattle.pq_hunt.specs.Layout as layout
 use Rattle.pq_hunt.specs.Rules.{hunt_rule}
 use Rattle.pq_hunt.specs.Steps as steps
 use native.Mathlib.Decide.{ℕ_discrete}
@@ -11,13 +10,14 @@ use Rattle.std.proofs.Common.{refl}
 use Rattle.pq_hunt.proofs.Sitting.{sits_on, sits_still}
 use Rattle.pq_hunt.proofs.Moves.{may_find}
 use Rattle.pq_hunt.proofs.accesses.find.Goals as goal
+use Rattle.pq_nodes.specs.Layout as node_layout
 
 pub load-requires : goal.load-requires
 load-requires c =
     let k = c.args.table.now.table.shared.key in let me = c.args.pass.now.seat.me in let id = c.args.pass.now.seat.id in let own = c.requires.own in let slots = c.args.table.now.table.shared.table_id.slots in
     let size = c.args.table.now.sized.0 in let words = c.requires.table.words in let seated = own.seated.0 in let named = own.named in
     let r = c.requires.find in
-    (own.table, omega (arith, c.word_of.ensures, c.requires.node.1), subst (λ (z : ℕ). Allows (Holds hunt_rule k) slots id me z (λ n. n) (steps.finds (step slots z 0 0 none) me)) (ap layout.word_of r.is ∙ sym c.word_of.ensures) (may_find k slots id me r.guard r.entry r.has r.means (r.place ∙ sym r.is) r.climbing (omega arith) r.flies))
+    (own.table, omega (arith, c.word_of.ensures, c.requires.node.1), subst (λ (z : ℕ). Allows (Holds hunt_rule k) slots id me z (λ n. n) (steps.finds (step slots z 0 0 none) me)) (ap node_layout.word_of r.is ∙ sym c.word_of.ensures) (may_find k slots id me r.guard r.entry r.has r.means (r.place ∙ sym r.is) r.climbing (omega arith) r.flies))
 
 pub returns-clause-own : goal.returns-clause-own
 returns-clause-own c =

@@ -1,6 +1,7 @@
 use Rattle.std.proofs.Common.{◌≤◌}
 use Rattle.pq_seats.specs.Passes.{limits_of, view_of, Belongs, IsSamePass}
-use Rattle.pq_hunt.specs.Passes.{Holds, in_flight}
+use Rattle.pq_nodes.specs.Passes.{ComesTo}
+use Rattle.pq_hunt.specs.Passes.{in_flight}
 use Rattle.pq_hunt.proofs.climb.climb.Given as goal
 
 abbrev pub invariant-loop : goal.invariant-loop
@@ -9,5 +10,5 @@ invariant-loop g l = record {
   same : IsSamePass l.initial.pass l.pass;
   low : 1 ≤ l.node;
   high : l.node ≤ (limits_of l.table).capacity;
-  flies : Holds (view_of l.initial.pass) (view_of l.pass) (in_flight l.initial.pass.number l.e l.node);
+  flies : ComesTo (view_of l.initial.pass) (view_of l.pass) (in_flight l.initial.pass.number l.e l.node);
 }

@@ -83,9 +83,9 @@ free_two-requires-in-Empty g c =
     let above_is : c.look-above.result ≡ t.above = c.look-above.ensures.word upper (subst (λ (z : View HuntPart). Contains z.post.own.guards upper) (sym same2) (turning.has_upper n up down e v0 v1 t)) refl in
     let below_is : c.args.mine ≡ t.below = sym here ∙ c.find.ensures.word lower (turning.has_lower n up down e v0 v1 t) refl in
     let same3 : v3 ≡ v1 = c.look-above.ensures.view ∙ same2 in
+    let words = c.requires.table.words in let few = c.requires.table.few in let high = c.requires.child.1 in
     record {
-      table = c.requires.table;
       own = c.look-above.ensures.own;
-      nodes = (omega arith, omega (arith, c.requires.child.1), omega arith, c.requires.child.1);
+      nodes = ((omega arith, omega arith, omega arith, omega arith), (omega arith, high, omega arith, omega arith));
       held = turning.taken_held n up down e v0 v1 t v3 same3 differ;
     }

@@ -3,7 +3,7 @@ use Rattle.pq_seats.specs.declared.views.View.{View}
 use Rattle.pq_seats.specs.declared.views.Post.{Post}
 use Rattle.pq_hunt.specs.declared.nodes.Node.TheVariants.{Busy}
 use Rattle.pq_hunt.specs.declared.views.HuntPart.{HuntPart}
-use Rattle.pq_hunt.specs.Views.{guard}
+use Rattle.pq_nodes.specs.Views.{guard}
 use Rattle.pq_hunt.specs.Steps.{busy_number}
 use Rattle.pq_hunt.specs.Passes.{guarding_flight}
 use Rattle.pq_hunt.proofs.Sitting.{within}

@@ -2,22 +2,22 @@
 use Rattle.std.proofs.Common.{◌∙◌, sym, ap, arith}
 use Rattle.atomic_table.proofs.Lists.{at_map}
 use Rattle.pq_seats.specs.Views.{post_of}
-use Rattle.pq_hunt.specs.Layout.{lock_of}
-use Rattle.pq_hunt.specs.Ties.{words_in}
+use Rattle.pq_nodes.specs.Layout.{lock_of}
+use Rattle.pq_nodes.specs.Facts.{words_in}
 use Rattle.pq_hunt.specs.Nodes.{node}
 use Rattle.pq_hunt.proofs.Ending.{node_lock}
 use Rattle.pq_hunt.proofs.laws.nodes_count_as_seen.Goals as goal
 
 pub returns-clause-free : goal.returns-clause-free
-returns-clause-free c = λ k s h i low high zero_word. let long = h.tied.facts.long in h.tied.guarded.free i (omega arith) zero_word
+returns-clause-free c = λ k s h i low high zero_word. let long = h.tied.facts.long in h.tied.tree.guarded.free i (omega arith) zero_word
 
 pub returns-clause-locked : goal.returns-clause-locked
 returns-clause-locked c = λ k s h i low high locked.
     let holder = h.holder (lock_of i) (node_lock k.capacity i low high) locked in let j = holder.0 in let v = holder.1 in
     let stands = holder.2 in let lock = holder.3 in
     let at = at_map post_of s.views j v stands in
-    let named = h.tied.named j v.post i at lock in let g = named.0 in
-    let is = h.tied.guarded.held j v.post g at named.1 in (
+    let named = (h.tied.tree.names j v.post at).named i lock in let g = named.0 in
+    let is = h.tied.tree.guarded.held j v.post g at named.1 in (
       j,
       v,
       g,

@@ -6,7 +6,8 @@ use Rattle.pq_model.specs.Passes.{Knows}
 use Rattle.pq_seats.specs.declared.views.Post.{Post}
 use Rattle.pq_seats.specs.declared.views.View.{View}
 use Rattle.pq_seats.specs.Views.{known_of, empty_post}
-use Rattle.pq_hunt.specs.Views.{idle, guard}
+use Rattle.pq_nodes.specs.Views.{guard}
+use Rattle.pq_hunt.specs.Views.{idle}
 use Rattle.pq_hunt.proofs.MayRemove.{above}
 use Rattle.pq_seats.specs.Batches.{letters_of}
 use Rattle.pq_hunt.specs.declared.nodes.Node.{Node}

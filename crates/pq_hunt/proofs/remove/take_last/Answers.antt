@@ -22,7 +22,7 @@ returns-clause-used g c =
     let low = c.requires.size.0 in
     let f = saying 1 c.args.root in let q1 = removing.to_last n size t.0 t.1 f v0 v1 c.requires.begun t.3 in let w = c.unpack.result in
     let is = c.look.ensures.word (removing.last n size t.0 t.1 f) (removing.last_has n size t.0 t.1 f v1 q1) refl in
-    removing.used_word w c.unpack.ensures.fits (ap used (unpacked_node w t.0 t.1 c.unpack.ensures.fits (c.unpack.ensures.number ∙ is) t.2) ∙ removing.last_used n size t.0 t.1 f v1 (omega arith) q1 c.look.ensures.used)
+    removing.used_word w c.unpack.ensures.fits (ap used (unpacked_node w t.0 t.1 c.unpack.ensures.fits (c.unpack.ensures.number ∙ is) t.2) ∙ removing.last_used n size t.0 t.1 f v1 (omega arith) q1 c.look.ensures.shown.1)
 
 pub returns-clause-apart : goal.returns-clause-apart
 returns-clause-apart g c =
@@ -31,7 +31,7 @@ returns-clause-apart g c =
     let f = saying 1 c.args.root in let q1 = removing.to_last n size t.0 t.1 f v0 v1 c.requires.begun t.3 in let w = c.unpack.result in
     let is = c.look.ensures.word (removing.last n size t.0 t.1 f) (removing.last_has n size t.0 t.1 f v1 q1) refl in
     subst (λ (z : Node). AreApart (node_of c.args.root) z) (sym (unpacked_node w t.0 t.1 c.unpack.ensures.fits (c.unpack.ensures.number ∙ is) t.2))
-    (removing.last_apart n size t.0 t.1 f v1 (λ z. omega arith) q1 c.look.ensures.apart)
+    (removing.last_apart n size t.0 t.1 f v1 (λ z. omega arith) q1 c.look.ensures.shown.0)
 
 pub returns-clause-took : goal.returns-clause-took
 returns-clause-took g c =

@@ -18,7 +18,7 @@ returns-clause-used g c =
     let n = c.args.pass.now.number in let size = c.args.size in let t = c.take_node.ensures.took in let v0 = c.args.pass.now.seat.me.0 in let v1 = c.take_node.new.pass.seat.me.0 in let v2 = c.look.new.pass.seat.me.0 in
     let q1 = removing.to_root n size t.0 t.1 v0 v1 c.requires.begun t.3 in let w = c.unpack.result in
     let is = c.look.ensures.word (removing.root n size t.0 t.1) (removing.root_has n size t.0 t.1 v1 q1) refl in
-    removing.used_word w c.unpack.ensures.fits (ap used (unpacked_node w t.0 t.1 c.unpack.ensures.fits (c.unpack.ensures.number ∙ is) t.2) ∙ removing.root_used n size t.0 t.1 v1 c.requires.size q1 c.look.ensures.used)
+    removing.used_word w c.unpack.ensures.fits (ap used (unpacked_node w t.0 t.1 c.unpack.ensures.fits (c.unpack.ensures.number ∙ is) t.2) ∙ removing.root_used n size t.0 t.1 v1 c.requires.size q1 c.look.ensures.shown.1)
 
 pub returns-clause-took : goal.returns-clause-took
 returns-clause-took g c =

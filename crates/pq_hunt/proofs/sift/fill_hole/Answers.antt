@@ -2,7 +2,7 @@ use Rattle.std.proofs.Common.{◌∷◌, refl, sym}
 use Rattle.pq_words.specs.declared.heap_words.Tag.TheVariants as tags
 use Rattle.pq_seats.proofs.Lists.{in_first}
 use Rattle.pq_hunt.specs.declared.nodes.Node.TheVariants.{Available, Hole}
-use Rattle.pq_hunt.specs.Views.{guard}
+use Rattle.pq_nodes.specs.Views.{guard}
 use Rattle.pq_hunt.proofs.Meanings.{packed_means}
 use Rattle.pq_hunt.proofs.Sifted as sifted
 use Rattle.pq_hunt.proofs.sift.fill_hole.Goals as goal

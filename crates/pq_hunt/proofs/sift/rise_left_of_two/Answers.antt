@@ -1,7 +1,7 @@
 use Rattle.std.proofs.Common.{◌+◌, ◌*◌, [], ◌∷◌, refl, arith}
 use Rattle.pq_seats.proofs.Lists.{in_first, in_later}
 use Rattle.pq_hunt.specs.declared.nodes.Node.TheVariants.{Hole}
-use Rattle.pq_hunt.specs.Views.{guard}
+use Rattle.pq_nodes.specs.Views.{guard}
 use Rattle.pq_hunt.specs.Passes.{Leaves, CanRiseLeft}
 use Rattle.pq_hunt.proofs.Sifted as sifted
 use Rattle.pq_hunt.proofs.sift.rise_left_of_two.Goals as goal

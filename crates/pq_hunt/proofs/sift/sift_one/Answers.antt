@@ -1,7 +1,7 @@
 use Rattle.std.proofs.Common.{◌≡◌, ℕ, ◌*◌, [], ◌∷◌, refl, sym, subst, inl, inr, arith}
 use Rattle.pq_seats.proofs.Lists.{in_first, in_later}
 use Rattle.pq_hunt.specs.declared.nodes.Node.TheVariants.{Hole}
-use Rattle.pq_hunt.specs.Views.{guard}
+use Rattle.pq_nodes.specs.Views.{guard}
 use Rattle.pq_hunt.specs.Words.{Means}
 use Rattle.pq_hunt.specs.Passes.{Leaves, IsHolding, IsRank, CanFillFirst, CanRiseLeft}
 use Rattle.pq_hunt.proofs.Sifted as sifted

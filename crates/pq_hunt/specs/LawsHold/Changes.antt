@@ -15,16 +15,17 @@ use Rattle.pq_seats.specs.Views.{post_of}
 use Rattle.pq_seats.specs.Letters.{back, owed_count, letter_count}
 use Rattle.pq_seats.specs.Rules.{Table, Holds}
 use Rattle.pq_seats.proofs.Lists.{at_unmap, put_here, same_at, sum_kept}
-use Rattle.pq_nodes.specs.Guards.{IsGuarded}
+use Rattle.pq_nodes.specs.Facts.{NodeFacts}
 use Rattle.pq_hunt.specs.declared.nodes.Node.{Node}
 use Rattle.pq_hunt.specs.Flights.{Flight}
 use Rattle.pq_hunt.specs.Facts.{HeapFacts}
-use Rattle.pq_hunt.specs.declared.views.Guard.{Guard}
+use Rattle.pq_hunt.specs.Guards.{Guard}
 use Rattle.pq_hunt.specs.declared.views.HuntPart.{HuntPart}
-use Rattle.pq_hunt.specs.Layout.{heap_lock, size_word, lock_of}
-use Rattle.pq_hunt.specs.Ties.{kind, locks_in, words_in, IsApart, IsInserting, HuntTied}
+use Rattle.pq_hunt.specs.Layout.{heap_lock, size_word}
+use Rattle.pq_hunt.specs.Ties.{IsInserting, HuntTied}
 use Rattle.pq_hunt.specs.Rules.{hunt_rule}
-use Rattle.pq_hunt.specs.LawsHold.{one_number, number_low}
+use Rattle.pq_hunt.specs.NodeParts.{hunt_nodes}
+use Rattle.pq_hunt.specs.LawsHold.Frames.{one_number, number_low}
 
 module _ (k : Limits) (s : Table HuntPart) (h : Holds hunt_rule k s) (id : ℕ) (v : View HuntPart) (at : get_elem? s.views id ≡ some v) where
   abbrev pub ps : List (Post HuntPart)
@@ -69,11 +70,8 @@ module _ (k : Limits) (s : Table HuntPart) (h : Holds hunt_rule k s) (id : ℕ) 
     pub size : ℕ
     pub of : ℕ → Flight
     pub nodes : List Node
-    pub guarded : IsGuarded kind (locks_in ws) (words_in ws) (set ps id p') nodes
+    pub tree : NodeFacts hunt_nodes ws (set ps id p') nodes
     pub facts : HeapFacts k.seats k.capacity size of nodes m'
-    pub holds : (g : Guard) → Contains p'.own.guards g → Contains p'.locks (lock_of g.node)
-    pub named : (i : ℕ) → Contains p'.locks (lock_of i) → (g : Guard) × Contains p'.own.guards g × (g.node ≡ i)
-    pub apart : IsApart p'.own.guards
     pub sizes : Sizes p' ws size
     pub inserts : Inserts p' ws of
     pub letters : Letters p' ws
@@ -103,22 +101,13 @@ module _ (k : Limits) (s : Table HuntPart) (h : Holds hunt_rule k s) (id : ℕ) 
         size = c.size;
         of = c.of;
         nodes = c.nodes;
-        guarded = c.guarded;
+        tree = c.tree;
         facts = c.facts;
         free = c.sizes.free;
         held = λ j q to has. ⊎_elim
             (λ e. subst (λ (z : Post HuntPart). (z.own.size_counted ≡ c.size) × (slice_index ws size_word ≡ z.own.size_stored)) e.1 (c.sizes.mine (subst (λ (z : Post HuntPart). Contains z.locks heap_lock) (sym e.1) has)))
             (λ a. let old = t.held j q a.1 has in ⊎_elim (λ e. (old.0 ∙ sym e.0, e.1 ∙ old.1)) (λ mine. absurd (one_heap j q a.0 a.1 has mine)) c.sizes.theirs)
             (at_set ps id j p' q to);
-        holds = λ j q g to has. ⊎_elim
-            (λ e. subst (λ (z : Post HuntPart). Contains z.locks (lock_of g.node)) e.1 (c.holds g (subst (λ (z : Post HuntPart). Contains z.own.guards g) (sym e.1) has)))
-            (λ a. t.holds j q g a.1 has)
-            (at_set ps id j p' q to);
-        named = λ j q i to has. ⊎_elim
-            (λ e. subst (λ (z : Post HuntPart). (g : Guard) × Contains z.own.guards g × (g.node ≡ i)) e.1 (c.named i (subst (λ (z : Post HuntPart). Contains z.locks (lock_of i)) (sym e.1) has)))
-            (λ a. t.named j q i a.1 has)
-            (at_set ps id j p' q to);
-        apart = λ j q to. ⊎_elim (λ e. subst (λ (z : Post HuntPart). IsApart z.own.guards) e.1 c.apart) (λ a. t.apart j q a.1) (at_set ps id j p' q to);
         told = λ j q to pos. ⊎_elim
             (λ e. subst (λ (z : Post HuntPart). IsInserting ws (set ps id p') c.of z) e.1 (c.inserts.told (let is : p'.number ≡ q.number = ap (λ (z : Post HuntPart). z.number) e.1 in omega arith)))
             (λ a. let old = t.told j q a.1 pos in let was = c.inserts.others q.number pos (low_at j q a.1 pos) (differs j q a.0 a.1 pos) in record {

@@ -1,0 +1,47 @@
+//! Loads and stores of nodes' words, each one step under a lock that the seat holds.
+ghost use Rattle.std.specs.Prelude.{◌≡◌, ◌≤◌, Contains};
+ghost use Rattle.pq_seats.specs.Passes.{view_of, Belongs, IsSamePass};
+ghost use Rattle.pq_seats.specs.Views.{with_post};
+ghost use Rattle.pq_seats.specs.Laws.{history_limit};
+ghost use Rattle.pq_nodes.specs.declared.guards.Guard.{Guard};
+ghost use Rattle.pq_nodes.specs.Parts.{HasGuard, with_word};
+ghost use Rattle.pq_nodes.specs.Passes.{IsNode};
+
+use crate::NodeRule;
+use crate::layout::word_of;
+use crate::plays::{Look, Store};
+use pq_seats::{SeatPass, Shared};
+
+/// The word of a node whose lock the seat holds. The load tells besides what the rule shows of each seat.
+pub fn look<R: NodeRule>(table: &Shared<R>, pass: &mut SeatPass<R>, node: u32) -> u64
+    requires own { Belongs table.now pass.old }
+    requires node { IsNode R.nodes table.now node }
+    ensures own { Belongs table.now pass.new }
+    ensures same { IsSamePass pass.old pass.new }
+    ensures view { view_of pass.new ≡ view_of pass.old }
+    ensures word { (g : Guard R.Node) → Contains (R.nodes.guards (view_of pass.old).post.own) g → g.node ≡ node →
+        result ≡ g.stored }
+    ensures shown { R.nodes.shows (view_of pass.old).post }
+{
+    table
+        .table
+        .shared
+        .load::<Look<R>>(&mut pass.seat, word_of(node) as usize)
+}
+
+/// Stores the word of a node that counts as it did.
+pub fn store<R: NodeRule>(table: &Shared<R>, pass: &mut SeatPass<R>, node: u32, word: u64)
+    requires own { Belongs table.now pass.old }
+    requires node { IsNode R.nodes table.now node }
+    requires guarded { HasGuard R.nodes (view_of pass.old) node }
+    requires allowed { R.nodes.may_store (view_of pass.old).post node word }
+    ensures own { Belongs table.now pass.new }
+    ensures same { IsSamePass pass.old pass.new }
+    ensures view { view_of pass.new ≡ with_post (view_of pass.old) (with_word R.nodes (view_of pass.old).post node word) }
+    ensures small { (view_of pass.old).front ≤ history_limit }
+{
+    table
+        .table
+        .shared
+        .store::<Store<R>>(&mut pass.seat, word_of(node) as usize, word);
+}
