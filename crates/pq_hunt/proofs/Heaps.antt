@@ -10,7 +10,8 @@ use Rattle.pq_words.specs.Limits.{raw_limit}
 use Rattle.pq_words.proofs.Order.{raw_of-fits}
 use Rattle.pq_nodes.specs.Order.{IsOrder}
 use Rattle.pq_nodes.proofs.Ancestors.{above_lt}
-use Rattle.pq_nodes.proofs.Orders.{IsSame, IsOver, under_parent, over_bound, over_children, changed, sifted, climbed}
+use Rattle.pq_nodes.specs.OrderLaws.{IsSame, IsOver}
+use Rattle.pq_nodes.proofs.Orders.{under_parent, over_bound, over_children, changed, sifted, climbed}
 use Rattle.pq_hunt.specs.declared.nodes.Node.{Node}
 use Rattle.pq_hunt.specs.declared.nodes.Node.TheVariants.{Empty, Available, Busy, Hole}
 use Rattle.pq_hunt.specs.Nodes.{node, used, IsShape}

@@ -48,6 +48,7 @@ use Rattle.pq_hunt.proofs.Stores as stores
 use Rattle.pq_hunt.proofs.Looks as looks
 use Rattle.pq_hunt.specs.NodeParts.{hunt_nodes}
 use Rattle.pq_nodes.specs.Parts.{guarding}
+use Rattle.pq_nodes.specs.Raising.{MayRaise}
 
 abbrev owner_at : Node → ℕ
 owner_at Empty = 0
@@ -151,33 +152,18 @@ module _ (k : Limits) where
       subst (λ (z : Node). MayStandOver e z) (sym (ap (node h.tied.nodes) (sym g.2) ∙ counted)) g.3)
       may
 
-  pub may_sift : (slots id : ℕ) (me : Me (Unit {0}) (View HuntPart)) (g f : Guard) (gs : List Guard) (d : ℕ) (x e : Entry) (word : ℕ) → me.0.post.own.guards ≡ g ∷ f ∷ gs → word ≡ f.stored → me.0.post.number ≢ 0
-      → g.counted ≡ Hole x → f.node / 2 ≡ g.node → f.node + d ≡ 4 * g.node + 1 → HasWord f.counted e → raw_of e ≤ raw_of x → MayStand k.capacity me.0.post.own d e
-      → Allows (Holds hunt_rule k) slots id me (word_of g.node) (λ _. word) (λ _. steps.sifts (step slots (word_of g.node) word 0 none) me word)
-  may_sift slots id me g f gs d x e word guards is_word seated hole child pair has_word under may s h sized at small =
-      let v = me.0 in let p : Post HuntPart = guarding hunt_nodes v.post (exchanged v.post.own.guards) in (
-        with_post v p,
-        keeps,
-        tt,
-        keeps_rule s h id v p (word_of g.node) word at seated (omega arith) (word_is_no_lock k.capacity g.node) (own_change v _)
-            (subst (λ (z : ℕ). HuntTied k (set s.words (word_of g.node) z) (set (map post_of s.views) id p) (left h.history)) (sym is_word)
-            (stores.sifts k s h id v at g f gs guards d x e hole child pair has_word under (stands s h id v at d e may))),
-        refl,
-      )
+  -- the entry in hand is not below that of a child, whose entry may stand over the other child: the child's word may go up
+  pub may_raise_second : (id : ℕ) (v : View HuntPart) (g f : Guard) (gs : List Guard) (d : ℕ) (x e : Entry) → v.post.own.guards ≡ g ∷ f ∷ gs
+      → g.counted ≡ Hole x → f.node / 2 ≡ g.node → f.node + d ≡ 4 * g.node + 1 → HasWord f.counted e → raw_of e ≤ raw_of x → MayStand k.capacity v.post.own d e
+      → MayRaise hunt_rule hunt_nodes k id v g f (exchanged v.post.own.guards)
+  may_raise_second id v g f gs d x e guards hole child pair has_word under may s h at =
+      stores.sifts k s h id v at g f gs guards d x e hole child pair has_word under (stands s h id v at d e may)
 
-  pub may_sift_third : (slots id : ℕ) (me : Me (Unit {0}) (View HuntPart)) (g b f : Guard) (gs : List Guard) (d : ℕ) (x e : Entry) (word : ℕ) → me.0.post.own.guards ≡ g ∷ b ∷ f ∷ gs → word ≡ f.stored → me.0.post.number ≢ 0
-      → g.counted ≡ Hole x → f.node / 2 ≡ g.node → f.node + d ≡ 4 * g.node + 1 → HasWord f.counted e → raw_of e ≤ raw_of x → MayStand k.capacity me.0.post.own d e
-      → Allows (Holds hunt_rule k) slots id me (word_of g.node) (λ _. word) (λ _. steps.sifts_third (step slots (word_of g.node) word 0 none) me word)
-  may_sift_third slots id me g b f gs d x e word guards is_word seated hole child pair has_word under may s h sized at small =
-      let v = me.0 in let p : Post HuntPart = guarding hunt_nodes v.post (exchanged_third v.post.own.guards) in (
-        with_post v p,
-        keeps,
-        tt,
-        keeps_rule s h id v p (word_of g.node) word at seated (omega arith) (word_is_no_lock k.capacity g.node) (own_change v _)
-            (subst (λ (z : ℕ). HuntTied k (set s.words (word_of g.node) z) (set (map post_of s.views) id p) (left h.history)) (sym is_word)
-            (stores.sifts_third k s h id v at g b f gs guards d x e hole child pair has_word under (stands s h id v at d e may))),
-        refl,
-      )
+  pub may_raise_third : (id : ℕ) (v : View HuntPart) (g b f : Guard) (gs : List Guard) (d : ℕ) (x e : Entry) → v.post.own.guards ≡ g ∷ b ∷ f ∷ gs
+      → g.counted ≡ Hole x → f.node / 2 ≡ g.node → f.node + d ≡ 4 * g.node + 1 → HasWord f.counted e → raw_of e ≤ raw_of x → MayStand k.capacity v.post.own d e
+      → MayRaise hunt_rule hunt_nodes k id v g f (exchanged_third v.post.own.guards)
+  may_raise_third id v g b f gs d x e guards hole child pair has_word under may s h at =
+      stores.sifts_third k s h id v at g b f gs guards d x e hole child pair has_word under (stands s h id v at d e may)
 
   pub may_fill : (slots id : ℕ) (me : Me (Unit {0}) (View HuntPart)) (g : Guard) (gs : List Guard) (x : Entry) (word : ℕ) → me.0.post.own.guards ≡ g ∷ gs → me.0.post.number ≢ 0
       → g.counted ≡ Hole x → MayStand k.capacity me.0.post.own (2 * g.node) x → MayStand k.capacity me.0.post.own (2 * g.node + 1) x

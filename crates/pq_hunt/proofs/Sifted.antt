@@ -1,5 +1,5 @@
 -- What a remover that sifts holds, step by step.
-use Rattle.std.proofs.Common.{◌≡◌, ◌≢◌, None, ℕ, ◌<◌, ◌≤◌, Bool, cond, eqb, List, [], ◌∷◌, inl, inr, ⊎_elim, refl, sym, ap, ◌∙◌, subst, arith, eq-eqb, ne_eqb}
+use Rattle.std.proofs.Common.{◌≡◌, ◌≢◌, None, ℕ, ◌<◌, ◌≤◌, List, [], ◌∷◌, inl, inr, ⊎_elim, refl, sym, ap, ◌∙◌, subst, arith}
 use Rattle.std.specs.Prelude.{Contains}
 use Rattle.pq_words.specs.declared.entries.Entry.{Entry}
 use Rattle.pq_words.specs.Entries.{raw_of}
@@ -8,7 +8,6 @@ use Rattle.pq_seats.specs.declared.views.Post.{Post}
 use Rattle.pq_seats.specs.declared.views.View.{View}
 use Rattle.pq_seats.specs.Views.{with_post}
 use Rattle.pq_seats.specs.Posts.{less}
-use Rattle.pq_seats.proofs.Lists.{in_first, in_later, in_cases, not_in}
 use Rattle.pq_hunt.specs.declared.nodes.Node.{Node}
 use Rattle.pq_hunt.specs.declared.nodes.Node.TheVariants.{Empty, Available, Busy, Hole}
 use Rattle.pq_hunt.specs.Order.{HasWord, MayStandOver}
@@ -22,56 +21,20 @@ use Rattle.pq_nodes.specs.Parts.{guarding}
 use Rattle.pq_nodes.specs.Passes.{ComesTo, TookNode}
 use Rattle.pq_nodes.specs.Parts.{with_node, without_node, IsFreeable}
 use Rattle.pq_nodes.specs.Views.{AreOthers}
-use Rattle.pq_hunt.specs.Passes.{locks_of, filled, MayStand, sifting, IsHolding, Leaves, IsRank, IsLeast, Sifted}
+use Rattle.pq_nodes.specs.Views.{locks_of}
+use Rattle.pq_hunt.specs.Passes.{filled, MayStand, sifting, IsHolding, Leaves, IsRank, IsLeast, Sifted}
+use Rattle.pq_nodes.proofs.Freed.{first_locks, first_guards, second_locks, second_guards, lock_has}
 use Rattle.pq_hunt.specs.NodeParts.{hunt_nodes}
 
-module _ {A : Type 0} where
-  same_number : (a b : ℕ) (x y : A) → a ≡ b → cond (eqb a b) x y ≡ x
-  same_number a b x y e = ap (λ (t : Bool). cond t x y) (eq-eqb a b e)
-
-  other_number : (a b : ℕ) (x y : A) → a ≢ b → cond (eqb a b) x y ≡ y
-  other_number a b x y ne = ap (λ (t : Bool). cond t x y) (ne_eqb a b ne)
-
--- what is left of locks and guards where a node's is freed
-locks_apart : (i : ℕ) (gs : List Guard) (locks : List ℕ) → AreOthers i gs → less (lock_of i) (locks_of gs locks) ≡ locks_of gs (less (lock_of i) locks)
-locks_apart i [] locks a = refl
-locks_apart i (g ∷ gs) locks a = locks_apart i gs (lock_of g.node ∷ locks) a.1
-    ∙ ap (locks_of gs) (other_number (lock_of g.node) (lock_of i) (less (lock_of i) locks) (lock_of g.node ∷ less (lock_of i) locks) (λ e. a.0 (omega arith)))
-
-guards_apart : (i : ℕ) (gs : List Guard) → AreOthers i gs → without_guard (lock_of i) gs ≡ gs
-guards_apart i [] a = refl
-guards_apart i (g ∷ gs) a = other_number (lock_of g.node) (lock_of i) (without_guard (lock_of i) gs) (g ∷ without_guard (lock_of i) gs) (λ e. a.0 (omega arith))
-    ∙ ap (λ (z : List Guard). g ∷ z) (guards_apart i gs a.1)
-
+-- what is left where a node's lock is freed
 freed_is : (n i : ℕ) (gs gs' : List Guard) → less (lock_of i) (locks_of gs []) ≡ locks_of gs' [] → without_guard (lock_of i) gs ≡ gs' → without_node hunt_nodes (sifting n gs) i ≡ sifting n gs'
 freed_is n i gs gs' locks guards = λ j. record { number = n; locks = locks j; flight = None; owed = []; own = with_guards idle (guards j) }
 
 pub freed_first : (n i : ℕ) (g : Guard) (gs : List Guard) → g.node ≡ i → AreOthers i gs → without_node hunt_nodes (sifting n (g ∷ gs)) i ≡ sifting n gs
-freed_first n i g gs is apart = freed_is n i (g ∷ gs) gs
-    (locks_apart i gs (lock_of g.node ∷ []) apart ∙ ap (locks_of gs) (same_number (lock_of g.node) (lock_of i) [] (lock_of g.node ∷ []) (ap lock_of is)))
-    (same_number (lock_of g.node) (lock_of i) (without_guard (lock_of i) gs) (g ∷ without_guard (lock_of i) gs) (ap lock_of is) ∙ guards_apart i gs apart)
+freed_first n i g gs is apart = freed_is n i (g ∷ gs) gs (first_locks i g gs is apart) (first_guards i g gs is apart)
 
 pub freed_second : (n i : ℕ) (f g : Guard) (gs : List Guard) → g.node ≡ i → f.node ≢ i → AreOthers i gs → without_node hunt_nodes (sifting n (f ∷ g ∷ gs)) i ≡ sifting n (f ∷ gs)
-freed_second n i f g gs is ne apart =
-    let far : lock_of f.node ≢ lock_of i = λ e. ne (omega arith) in
-    freed_is n i (f ∷ g ∷ gs) (f ∷ gs)
-    (locks_apart i gs (lock_of g.node ∷ lock_of f.node ∷ []) apart ∙ ap (locks_of gs)
-    (same_number (lock_of g.node) (lock_of i) (less (lock_of i) (lock_of f.node ∷ [])) (lock_of g.node ∷ less (lock_of i) (lock_of f.node ∷ [])) (ap lock_of is)
-    ∙ other_number (lock_of f.node) (lock_of i) [] (lock_of f.node ∷ []) far))
-    (other_number (lock_of f.node) (lock_of i) (without_guard (lock_of i) (g ∷ gs)) (f ∷ without_guard (lock_of i) (g ∷ gs)) far
-    ∙ ap (λ (z : List Guard). f ∷ z) (same_number (lock_of g.node) (lock_of i) (without_guard (lock_of i) gs) (g ∷ without_guard (lock_of i) gs) (ap lock_of is) ∙ guards_apart i gs apart))
-
--- the locks of the guards' nodes are held
-still_has : (gs : List Guard) (locks : List ℕ) (l : ℕ) → Contains locks l → Contains (locks_of gs locks) l
-still_has [] locks l has = has
-still_has (g ∷ gs) locks l has = still_has gs (lock_of g.node ∷ locks) l (in_later (lock_of g.node) l locks has)
-
-lock_has : (gs : List Guard) (locks : List ℕ) (g : Guard) → Contains gs g → Contains (locks_of gs locks) (lock_of g.node)
-lock_has [] locks g has = absurd (not_in g has)
-lock_has (f ∷ gs) locks g has = ⊎_elim
-    (λ e. still_has gs (lock_of f.node ∷ locks) (lock_of g.node) (subst (λ (z : Guard). Contains (lock_of f.node ∷ locks) (lock_of z.node)) e (in_first (lock_of f.node) locks)))
-    (λ r. lock_has gs (lock_of f.node ∷ locks) g r)
-    (in_cases f g gs has)
+freed_second n i f g gs is ne apart = freed_is n i (f ∷ g ∷ gs) (f ∷ gs) (second_locks i f g gs is ne apart) (second_guards i f g gs is ne apart)
 
 pub starts : (v : View HuntPart) (gs : List Guard) → IsHolding v gs → Leaves v v gs
 starts v gs is = record { post = is; lanes = refl; front = refl }

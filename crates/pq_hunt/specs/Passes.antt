@@ -15,21 +15,16 @@ use Rattle.pq_hunt.specs.declared.nodes.Node.TheVariants.{Empty, Available, Busy
 use Rattle.pq_hunt.specs.Order.{HasWord, MayStandOver}
 use Rattle.pq_hunt.specs.Guards.{Guard}
 use Rattle.pq_hunt.specs.declared.views.HuntPart.{HuntPart}
-use Rattle.pq_nodes.specs.Layout.{lock_of}
 use Rattle.pq_hunt.specs.Layout.{heap_lock}
 use Rattle.pq_hunt.specs.Words.{Means, node_of}
-use Rattle.pq_nodes.specs.Views.{guard, refilled, AreOthers}
+use Rattle.pq_nodes.specs.Views.{guard, locks_of, refilled, AreOthers}
 use Rattle.pq_nodes.specs.Passes.{ComesTo}
 use Rattle.pq_hunt.specs.Views.{idle, with_guards, with_size}
 use Rattle.pq_nodes.specs.Parts.{guarding}
 use Rattle.pq_hunt.specs.Steps.{first_entry}
 use Rattle.pq_hunt.specs.NodeParts.{hunt_nodes}
 
--- the locks of these guards' nodes, the last one first, before these locks
-abbrev pub locks_of : List Guard → List ℕ → List ℕ
-locks_of [] locks = locks
-locks_of (g ∷ gs) locks = locks_of gs (lock_of g.node ∷ locks)
-
+-- the heap's lock, where it is held
 abbrev pub heap_locks : Bool → List ℕ
 heap_locks true = heap_lock ∷ []
 heap_locks false = []
@@ -80,36 +75,6 @@ pub record CanClimb (v : View HuntPart) (parent word : ℕ) : Type 0 where
 abbrev pub MayStand : ℕ → HuntPart → ℕ → Entry → Type 0
 MayStand capacity v node e = (capacity < node) ⊎ ((g : Guard) × Contains v.guards g × (g.node ≡ node) ×
     MayStandOver e g.counted)
-
--- The hole's entry in hand is not below that of this child, whose entry may stand over the other child
-pub record CanRise (capacity : ℕ) (v : HuntPart) (hole child : Guard) (word : ℕ) : Type 0 where
-  pub sibling : ℕ
-  pub hand : Entry
-  pub entry : Entry
-  pub in_hand : hole.counted ≡ Hole hand
-  pub below : child.node / 2 ≡ hole.node
-  pub pair : child.node + sibling ≡ 4 * hole.node + 1
-  pub has : HasWord child.counted entry
-  pub under : raw_of entry ≤ raw_of hand
-  pub over : MayStand capacity v sibling entry
-  pub stored : word ≡ child.stored
-
-pub record CanSift (capacity : ℕ) (v : View HuntPart) (hole word : ℕ) : Type 0 where
-  pub first : Guard
-  pub left : Guard
-  pub others : List Guard
-  pub guards : v.post.own.guards ≡ first ∷ left ∷ others
-  pub is : first.node ≡ hole
-  pub rise : CanRise capacity v.post.own first left word
-
-pub record CanSiftRight (capacity : ℕ) (v : View HuntPart) (hole word : ℕ) : Type 0 where
-  pub first : Guard
-  pub left : Guard
-  pub right : Guard
-  pub others : List Guard
-  pub guards : v.post.own.guards ≡ first ∷ left ∷ right ∷ others
-  pub is : first.node ≡ hole
-  pub rise : CanRise capacity v.post.own first right word
 
 -- The entry in hand may stand over both children
 pub record CanFill (capacity : ℕ) (v : View HuntPart) (hole : ℕ) : Type 0 where

@@ -12,7 +12,7 @@ use Rattle.pq_hunt.specs.Guards.{Guard}
 use Rattle.pq_hunt.specs.declared.views.HuntPart.{HuntPart}
 use Rattle.pq_nodes.specs.Layout.{word_of}
 use Rattle.pq_hunt.specs.Words.{Means}
-use Rattle.pq_nodes.specs.Views.{exchanged, exchanged_third, refilled}
+use Rattle.pq_nodes.specs.Views.{exchanged, refilled}
 use Rattle.pq_hunt.specs.Batches.{entry_at}
 use Rattle.pq_nodes.specs.Parts.{guarding}
 use Rattle.pq_hunt.specs.NodeParts.{hunt_nodes}
@@ -72,12 +72,6 @@ module _ (st : Step (Unit {0})) (m : Me (Unit {0}) (View HuntPart)) (found : ℕ
 
   abbrev pub climbs : Type 0
   climbs = m' ≡ (with_post m.0 (climbed m.0.post), m.1)
-
-  abbrev pub sifts : Type 0
-  sifts = m' ≡ (with_post m.0 (guarding hunt_nodes m.0.post (exchanged m.0.post.own.guards)), m.1)
-
-  abbrev pub sifts_third : Type 0
-  sifts_third = m' ≡ (with_post m.0 (guarding hunt_nodes m.0.post (exchanged_third m.0.post.own.guards)), m.1)
 
   abbrev pub fills : Type 0
   fills = m' ≡ (

@@ -15,13 +15,13 @@ ghost use Rattle.pq_hunt.specs.NodeParts.{HaveOwnersApart, AreUsed};
 ghost use Rattle.pq_hunt.specs.Steps.{busy_number, sizing, leafed, climbed};
 ghost use Rattle.pq_hunt.specs.Steps.{looking, missing};
 ghost use Rattle.pq_nodes.specs.Parts.{HasGuard};
-ghost use Rattle.pq_hunt.specs.Passes.{CanLeaf, CanClimb, CanSift, CanSiftRight, CanFill, CanFind, filled};
+ghost use Rattle.pq_hunt.specs.Passes.{CanLeaf, CanClimb, CanFill, CanFind, filled};
 ghost use Rattle.pq_hunt.specs.Tables.{IsHeapTable};
 ghost use Rattle.pq_hunt.specs.NodeParts.{hunt_nodes};
 ghost use Rattle.pq_nodes.specs.Layout as node_layout;
 
 use crate::layout::SIZE;
-use crate::plays::{Climb, Fill, Find, FindAtRoot, Leaf, LookAtSize, Sift, SiftRight, StoreSize};
+use crate::plays::{Climb, Fill, Find, FindAtRoot, Leaf, LookAtSize, StoreSize};
 use crate::{HuntPass, HuntTable};
 use pq_nodes::word_of;
 
@@ -89,41 +89,6 @@ pub(crate) fn climb_to(table: &HuntTable, pass: &mut HuntPass, parent: u32, word
         .table
         .shared
         .store::<Climb>(&mut pass.seat, word_of(parent) as usize, word);
-}
-
-/// Moves the left child's word up into the hole.
-pub(crate) fn sift_left(table: &HuntTable, pass: &mut HuntPass, hole: u32, word: u64)
-    requires table { IsHeapTable table.now }
-    requires own { Belongs table.now pass.old }
-    requires node { (1 ≤ hole) × (hole ≤ (limits_of table.now).capacity) }
-    requires sift { CanSift (limits_of table.now).capacity (view_of pass.old) hole word }
-    ensures own { Belongs table.now pass.new }
-    ensures same { IsSamePass pass.old pass.new }
-    ensures view { view_of pass.new ≡
-        with_post (view_of pass.old) (guarding hunt_nodes (view_of pass.old).post (exchanged (view_of pass.old).post.own.guards)) }
-{
-    table
-        .table
-        .shared
-        .store::<Sift>(&mut pass.seat, word_of(hole) as usize, word);
-}
-
-/// Moves the right child's word up into the hole.
-pub(crate) fn sift_right(table: &HuntTable, pass: &mut HuntPass, hole: u32, word: u64)
-    requires table { IsHeapTable table.now }
-    requires own { Belongs table.now pass.old }
-    requires node { (1 ≤ hole) × (hole ≤ (limits_of table.now).capacity) }
-    requires sift { CanSiftRight (limits_of table.now).capacity (view_of pass.old) hole word }
-    ensures own { Belongs table.now pass.new }
-    ensures same { IsSamePass pass.old pass.new }
-    ensures view { view_of pass.new ≡
-        with_post (view_of pass.old) (guarding hunt_nodes (view_of pass.old).post
-        (exchanged_third (view_of pass.old).post.own.guards)) }
-{
-    table
-        .table
-        .shared
-        .store::<SiftRight>(&mut pass.seat, word_of(hole) as usize, word);
 }
 
 /// Fills the hole with the entry in hand.

@@ -1,5 +1,5 @@
 //! The heap's own steps on its table.
-ghost use Rattle.pq_hunt.specs.Steps.{looks_at_size, stores_size, leafs, climbs, sifts, sifts_third};
+ghost use Rattle.pq_hunt.specs.Steps.{looks_at_size, stores_size, leafs, climbs};
 ghost use Rattle.pq_hunt.specs.Steps.{fills};
 ghost use Rattle.pq_hunt.specs.Steps.{finds, finds_at_root};
 
@@ -33,20 +33,6 @@ pub(crate) struct Climb;
 
 impl Play<(), View<HuntPart>> for Climb {
     ghost then = { climbs };
-}
-
-/// The store of the left child's word into a hole.
-pub(crate) struct Sift;
-
-impl Play<(), View<HuntPart>> for Sift {
-    ghost then = { sifts };
-}
-
-/// The store of the right child's word into a hole.
-pub(crate) struct SiftRight;
-
-impl Play<(), View<HuntPart>> for SiftRight {
-    ghost then = { sifts_third };
 }
 
 /// The store of the entry in hand into a hole.

@@ -14,10 +14,10 @@ ghost use Rattle.pq_hunt.specs.Passes.{IsHolding, Leaves, IsRank, CanFillFirst, 
 ghost use Rattle.pq_hunt.specs.Passes.{IsLeast, Sifted, at_hole};
 ghost use Rattle.pq_hunt.specs.Tables.{IsHeapTable};
 
-use crate::accesses::{fill, sift_left, sift_right};
+use crate::accesses::fill;
 use crate::layout::word_count;
 use crate::{HuntPass, HuntTable};
-use pq_nodes::{NODE_WORDS, free_node, look, take_node};
+use pq_nodes::{NODE_WORDS, free_node, look, raise_second, raise_third, take_node};
 use pq_words::{Entry, HeapWord, RAW_LIMIT, Tag};
 use std::sync::Wait;
 
@@ -223,7 +223,7 @@ fn rise_left(table: &HuntTable, pass: &mut HuntPass, hole: u32, word: u64, hand:
         CanRiseLeft (limits_of table.now).capacity (view_of pass.old) hole word hand left others →
         Leaves (view_of pass.old) (view_of pass.new) (guard (2 * hole) word (Hole hand) ∷ others) }
 {
-    sift_left(table, pass, hole, word);
+    raise_second(table, pass, hole, word);
     free_node(table, pass, hole);
 }
 
@@ -254,7 +254,7 @@ fn rise_right(table: &HuntTable, pass: &mut HuntPass, hole: u32, word: u64, hand
     ensures same { IsSamePass pass.old pass.new }
     ensures risen { Leaves (view_of pass.old) (view_of pass.new) (guard (2 * hole + 1) word (Hole hand) ∷ []) }
 {
-    sift_right(table, pass, hole, word);
+    raise_third(table, pass, hole, word);
     free_node(table, pass, hole);
     free_node(table, pass, 2 * hole);
 }

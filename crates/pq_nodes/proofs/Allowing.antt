@@ -14,16 +14,19 @@ use Rattle.pq_seats.specs.Posts.{with_lock, without_lock}
 use Rattle.pq_seats.specs.Rules.{Table, Rule, Lawful, TiedAfter, Holds, Stands}
 use Rattle.pq_seats.specs.Allowed.{MayTake, MayFree}
 use Rattle.pq_seats.specs.Steps.{Took}
+use Rattle.pq_seats.specs.Laws.{stepped_to}
+use Rattle.pq_seats.proofs.Lists.{in_first}
 use Rattle.pq_seats.proofs.Keeps.{untouched}
 use Rattle.pq_seats.proofs.Owning.{own_stays}
 use Rattle.pq_seats.proofs.Lengths.{few_marks}
 use Rattle.pq_nodes.specs.declared.guards.Guard.{Guard}
 use Rattle.pq_nodes.specs.Layout.{lock_of, word_of}
-use Rattle.pq_nodes.specs.Views.{guard}
-use Rattle.pq_nodes.specs.Parts.{NodePart, without_node, with_word, HasGuard, IsFreeable}
+use Rattle.pq_nodes.specs.Views.{guard, exchanged, exchanged_third}
+use Rattle.pq_nodes.specs.Parts.{NodePart, guarding, without_node, with_word, HasGuard, IsFreeable}
 use Rattle.pq_nodes.specs.Facts.{words_in, NodeFacts}
 use Rattle.pq_nodes.specs.NodeLaws.{NodeLaws}
 use Rattle.pq_nodes.specs.Passes.{TookNode}
+use Rattle.pq_nodes.specs.Raising.{MayRaise, CanRaiseSecond, CanRaiseThird}
 use Rattle.pq_nodes.specs.Steps as steps
 use Rattle.pq_nodes.proofs.Keeping.{take_keeps, free_keeps, store_keeps, guard_within}
 
@@ -82,7 +85,7 @@ module _ {O N : Type 0} (R : Rule O) (P : NodePart O N) (laws : NodeLaws R P) (k
 
   -- a load of a node's word
   pub may_look : (slots id : ℕ) (me : Me (Unit {0}) (View O)) (i : ℕ) → me.1 ≡ []
-      → Allows (Holds R k) slots id me (word_of i) (λ n. n) (steps.looks P (step slots (word_of i) 0 0 none) me)
+      → Allows (Holds R k) slots id me (word_of i) (λ n. n) (steps.sees_word P (step slots (word_of i) 0 0 none) me)
   may_look slots id me i empty s h sized at small = (
     me.0,
     keeps,
@@ -99,7 +102,7 @@ module _ {O N : Type 0} (R : Rule O) (P : NodePart O N) (laws : NodeLaws R P) (k
   -- a store of a node's word
   pub may_store : Lawful R → (slots id : ℕ) (me : Me (Unit {0}) (View O)) (i x : ℕ) → me.0.post.number ≢ 0
       → HasGuard P me.0 i → P.may_store me.0.post i x
-      → Allows (Holds R k) slots id me (word_of i) (λ _. x) (λ _. steps.stores P (step slots (word_of i) x 0 none) me x)
+      → Allows (Holds R k) slots id me (word_of i) (λ _. x) (λ _. steps.stores_word P (step slots (word_of i) x 0 none) me x)
   may_store lawful slots id me i x seated r allowed s h sized at small =
       let v = me.0 in let p : Post O = with_word P v.post i x in let nodes : List N = laws.nodes k s h in
       let there = at_map post_of s.views id v at in let g : Guard N = r.guard in
@@ -114,3 +117,43 @@ module _ {O N : Type 0} (R : Rule O) (P : NodePart O N) (laws : NodeLaws R P) (k
             (set (map post_of s.views) id (with_word P v.post z x)) nodes) r.is stored)),
         (refl, let front = (h.each id v at).front in let most = few_marks R k s h in omega arith),
       )
+
+  -- a word goes up from a child into the hole
+  keeps_raised : Lawful R → (s : Table O) (h : Holds R k s) (id : ℕ) (v : View O) (at : Stands R s id v) (g c : Guard N)
+      (gs : List (Guard N)) (word : ℕ) → v.post.number ≢ 0 → Contains (P.guards v.post.own) g → word ≡ c.stored
+      → MayRaise R P k id v g c gs → Holds R k (stepped_to s (word_of g.node) word id (with_post v (guarding P v.post gs)))
+  keeps_raised lawful s h id v at g c gs word seated has is allowed =
+      own_stays R k lawful s h id v (guarding P v.post gs) at seated
+      (record { number = refl; locks = refl; owed = refl; flight = inl refl }) (word_of g.node) word (omega arith)
+      (laws.words k g.node (guard_at s h id v at g.node g has refl))
+      (subst (λ (z : ℕ). TiedAfter R k s (word_of g.node) z id (guarding P v.post gs) (left h.history)) (sym is) (allowed s h at))
+
+  pub may_raise_second : Lawful R → (slots id : ℕ) (me : Me (Unit {0}) (View O)) (hole word : ℕ) → me.0.post.number ≢ 0
+      → CanRaiseSecond R P k id me.0 hole word → Allows (Holds R k) slots id me (word_of hole) (λ _. word)
+      (λ _. steps.raises_second P (step slots (word_of hole) word 0 none) me word)
+  may_raise_second lawful slots id me hole word seated r = subst (λ (z : ℕ). Allows (Holds R k) slots id me (word_of z)
+      (λ _. word) (λ _. steps.raises_second P (step slots (word_of z) word 0 none) me word)) r.is
+      (λ s h sized at small. (
+        with_post me.0 (guarding P me.0.post (exchanged (P.guards me.0.post.own))),
+        keeps,
+        tt,
+        keeps_raised lawful s h id me.0 at r.first r.child (exchanged (P.guards me.0.post.own)) word seated
+            (subst (λ (z : List (Guard N)). Contains z r.first) (sym r.guards) (in_first r.first (r.child ∷ r.others)))
+            r.stored r.allowed,
+        refl,
+      ))
+
+  pub may_raise_third : Lawful R → (slots id : ℕ) (me : Me (Unit {0}) (View O)) (hole word : ℕ) → me.0.post.number ≢ 0
+      → CanRaiseThird R P k id me.0 hole word → Allows (Holds R k) slots id me (word_of hole) (λ _. word)
+      (λ _. steps.raises_third P (step slots (word_of hole) word 0 none) me word)
+  may_raise_third lawful slots id me hole word seated r = subst (λ (z : ℕ). Allows (Holds R k) slots id me (word_of z)
+      (λ _. word) (λ _. steps.raises_third P (step slots (word_of z) word 0 none) me word)) r.is
+      (λ s h sized at small. (
+        with_post me.0 (guarding P me.0.post (exchanged_third (P.guards me.0.post.own))),
+        keeps,
+        tt,
+        keeps_raised lawful s h id me.0 at r.first r.child (exchanged_third (P.guards me.0.post.own)) word seated
+            (subst (λ (z : List (Guard N)). Contains z r.first) (sym r.guards)
+            (in_first r.first (r.second ∷ r.child ∷ r.others))) r.stored r.allowed,
+        refl,
+      ))

@@ -5,5 +5,6 @@ pub mod Written
 pub mod Guarded
 pub mod Tables
 pub mod GuardLists
+pub mod Freed
 pub mod Keeping
 pub mod Allowing

@@ -1,30 +1,21 @@
 -- What a step keeps of the order of a tree.
-use Rattle.std.proofs.Common.{◌≡◌, ◌≢◌, ℕ, ◌+◌, ◌*◌, ◌/◌, ◌≤◌, ⊎_elim, sym, ap, ◌∙◌, subst, arith}
+use Rattle.std.proofs.Common.{◌≡◌, ℕ, ◌/◌, ◌≤◌, ⊎_elim, sym, ap, ◌∙◌, subst, arith}
 use native.Mathlib.Decide.{ℕ_discrete}
 use mathlib.Core.Logic.{dite}
 use Rattle.pq_nodes.specs.Ancestors.{IsAbove}
 use Rattle.pq_nodes.specs.Order.{IsOrder}
+use Rattle.pq_nodes.specs.OrderLaws.{IsOver, RootsAreLeast, ChangesKeepOrder, SwapsKeepOrder, ClimbsKeepOrder}
 use Rattle.pq_nodes.proofs.Ancestors.{parent, above_child, below_end, above_twice, above_lt, above_root, is_child}
 use Rattle.pq_nodes.proofs.Ancestors.{below_child, upper_end, above_above}
 
--- the other nodes are as they were
-pub record IsSame (b s b' s' : ℕ → ℕ) (i : ℕ) : Type 0 where
-  pub bound : b' i ≡ b i
-  pub stand : s' i ≡ s i
-
 -- what stands at a node is bounded by the root
-pub root_least : (b s : ℕ → ℕ) (i : ℕ) → IsOrder b s → 2 ≤ i → b 1 ≤ s i
+pub root_least : RootsAreLeast
 root_least b s i o some = o.order 1 i (above_root i some)
 
 -- a number that the parent neither bounds nor stands above may stand at a child
 pub under_parent : (b s : ℕ → ℕ) (x c a : ℕ) → IsOrder b s → b (c / 2) ≤ x → s (c / 2) ≤ x → IsAbove a c → b a ≤ x
 under_parent b s x c a o at most up = ⊎_elim (λ e. rw e at) (λ h. let le = o.order a (c / 2) h in omega arith)
     (below_end a c up)
-
--- a number that bounds neither child nor what stands below them may bound their parent
-pub record IsOver (s : ℕ → ℕ) (x c : ℕ) : Type 0 where
-  pub at : x ≤ s c
-  pub below : (i : ℕ) → IsAbove c i → x ≤ s i
 
 pub over_bound : (b s : ℕ → ℕ) (x c : ℕ) → IsOrder b s → x ≤ b c → x ≤ s c → IsOver s x c
 over_bound b s x c o under at = record { at = at; below = λ i up. let le = o.order c i up in omega arith }
@@ -37,8 +28,7 @@ over_children s x h i all up = elim (upper_end h i up) as (λ _. x ≤ s i) [
 ]
 
 -- one node changes
-pub changed : (b s b' s' : ℕ → ℕ) (h : ℕ) → IsOrder b s → ((i : ℕ) → i ≢ h → IsSame b s b' s' i)
-    → ((a : ℕ) → IsAbove a h → b a ≤ s' h) → ((i : ℕ) → IsAbove h i → b' h ≤ s i) → IsOrder b' s'
+pub changed : ChangesKeepOrder
 changed b s b' s' h o same above below = record {
   order = λ a i up. dite (ℕ_discrete a h)
       (λ e. subst (λ (z : ℕ). b' z ≤ s' i) (sym e) (let down : IsAbove h i = subst (λ (z : ℕ). IsAbove z i) e up in
@@ -50,9 +40,7 @@ changed b s b' s' h o same above below = record {
 }
 
 -- what stood at a child moves into the hole h, and what was in hand there moves to the child c, which is the hole
-pub sifted : (b s b' s' : ℕ → ℕ) (h c d : ℕ) → IsOrder b s → 1 ≤ h → c / 2 ≡ h → c + d ≡ 4 * h + 1
-    → ((i : ℕ) → i ≢ h → i ≢ c → IsSame b s b' s' i) → b' h ≡ b c → s' h ≡ s c → b' c ≡ 0 → s' c ≡ s h
-    → b c ≤ s h → IsOver s (b c) d → IsOrder b' s'
+pub sifted : SwapsKeepOrder
 sifted b s b' s' h c d o some child pair same bh sh bc sc under over = record {
   order = λ a i up. dite (ℕ_discrete a c) (λ e. let none : b' a ≡ 0 = ap b' e ∙ bc in omega arith)
       (λ ac. dite (ℕ_discrete a h)
@@ -79,9 +67,7 @@ sifted b s b' s' h c d o some child pair same bh sh bc sc under over = record {
     ]
 
 -- what climbs from the child c takes the place of what stood at its parent p, which goes to c
-pub climbed : (b s b' s' : ℕ → ℕ) (p c : ℕ) → IsOrder b s → 1 ≤ p → c / 2 ≡ p
-    → ((i : ℕ) → i ≢ p → i ≢ c → IsSame b s b' s' i) → b' p ≤ b p → s p ≤ s' p → b' c ≤ b p → s' c ≡ s p → b' p ≤ s' c
-    → IsOrder b' s'
+pub climbed : ClimbsKeepOrder
 climbed b s b' s' p c o some child same bp sp bc sc under = record {
   order = λ a i up. let far = above_lt a i up in dite (ℕ_discrete a c)
       (λ e. let is : b' a ≡ b' c = ap b' e in let ci : IsAbove c i = subst (λ (z : ℕ). IsAbove z i) e up in

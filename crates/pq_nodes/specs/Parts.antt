@@ -11,7 +11,7 @@ use Rattle.pq_nodes.specs.Views.{without_guard, restored}
 
 -- O is what a view holds of the queue's own, and a node counts as an N
 pub record NodePart (O N : Type 0) : Type 1 where
-  -- the guards that the own part has, one for each node whose lock the seat holds, in the order in which they were taken
+  -- the own part's guards, one for each node whose lock the seat holds, in the order in which the locks were taken
   pub guards : O → List (Guard N)
   pub with_guards : O → List (Guard N) → O
   pub empty : N  -- what a node past the end counts as

@@ -21,7 +21,8 @@ module _ {O N : Type 0} (P : NodePart O N) where
 
   -- the seat took the node's lock, and its view names the node's word, and what the node counts as by it
   abbrev pub TookNode : View O → View O → ℕ → Type 0
-  TookNode v w i = (word : ℕ) × (counted : N) × P.means counted word × ComesTo v w (with_node P v.post (guard i word counted))
+  TookNode v w i = (word : ℕ) × (counted : N) × P.means counted word
+      × ComesTo v w (with_node P v.post (guard i word counted))
 
   -- two different nodes' locks are held, and may be freed
   pub record HoldsTwo (v : View O) (first second : ℕ) : Type 0 where

@@ -21,6 +21,11 @@ abbrev pub AreOthers : {N : Type 0} → ℕ → List (Guard N) → Type 0
 AreOthers node [] = Unit {0}
 AreOthers node (g ∷ gs) = (g.node ≢ node) × AreOthers node gs
 
+-- the locks of these guards' nodes, the last one first, before these locks
+abbrev pub locks_of : {N : Type 0} → List (Guard N) → List ℕ → List ℕ
+locks_of [] locks = locks
+locks_of (g ∷ gs) locks = locks_of gs (lock_of g.node ∷ locks)
+
 -- the guards but that of the node with this lock
 abbrev pub without_guard : {N : Type 0} → ℕ → List (Guard N) → List (Guard N)
 without_guard lock [] = []

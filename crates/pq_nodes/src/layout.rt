@@ -1,4 +1,4 @@
-//! Where the words of the nodes lie in a table: behind the history word, the letters, and some words of the queue's own.
+//! Where the words of the nodes lie in a table: behind the history word, the letters, and words of the queue's own.
 ghost use Rattle.std.specs.Prelude.{◌≡◌, ◌≤◌};
 ghost use Rattle.pq_nodes.specs.Layout as layout;
 

@@ -13,6 +13,6 @@ load-requires g c =
     let slots = c.args.table.now.table.shared.table_id.slots in let size = c.args.table.now.sized.0 in let within = c.requires.node.3 in (
       own.table,
       omega (arith, c.word_of.ensures),
-      subst (λ (z : ℕ). Allows (Holds R k) slots id me z (λ n. n) (steps.looks P (step slots z 0 0 none) me)) (sym c.word_of.ensures)
+      subst (λ (z : ℕ). Allows (Holds R k) slots id me z (λ n. n) (steps.sees_word P (step slots z 0 0 none) me)) (sym c.word_of.ensures)
           (may_look R P laws k slots id me c.args.node own.empty),
     )

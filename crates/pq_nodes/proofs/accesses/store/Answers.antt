@@ -14,6 +14,6 @@ store-requires g c =
     let seated = own.seated.0 in let named = own.named in (
       own.table,
       omega (arith, c.word_of.ensures),
-      subst (λ (z : ℕ). Allows (Holds R k) slots id me z (λ _. c.args.word) (λ _. steps.stores P (step slots z c.args.word 0 none) me c.args.word)) (sym c.word_of.ensures)
+      subst (λ (z : ℕ). Allows (Holds R k) slots id me z (λ _. c.args.word) (λ _. steps.stores_word P (step slots z c.args.word 0 none) me c.args.word)) (sym c.word_of.ensures)
           (may_store R P laws k lawful slots id me c.args.node c.args.word (λ z. omega arith) c.requires.guarded c.requires.allowed),
     )
