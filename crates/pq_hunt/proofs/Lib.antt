@@ -1,31 +1,6 @@
--- What each step of the heap keeps of its facts.
-pub mod Counting
-pub mod Writes
-pub mod Heaps
-pub mod Weights
-pub mod Counts
-pub mod Steps
-pub mod Flown
-pub mod Plain
-pub mod Events
-pub mod Told
-pub mod Meanings
-pub mod Locking
-pub mod Stores
-pub mod Looks
-pub mod Draws
-pub mod InsertDraws
-pub mod RemovalDraws
-pub mod Leaves
-pub mod Moves
-pub mod Sitting
-pub mod MayDraw
-pub mod Leafing
-pub mod Pairs
-pub mod Turning
-pub mod Rooting
-pub mod Sifted
-pub mod Opening
-pub mod Ending
-pub mod MayRemove
-pub mod Removing
+-- What is shown of the heap, from its events up to its calls.
+pub mod Heap
+pub mod Keeping
+pub mod Allowing
+pub mod Calls
+pub mod Ends

@@ -56,10 +56,10 @@ abbrev pub insertion : ℕ → Batch
 insertion zero = record { before = []; reply = replies.Full; after = [] }
 insertion (suc climbing) = record { before = []; reply = replies.Done; after = [] }
 
-abbrev pub batch_of : HuntPart → Act → Batch
-batch_of v (Insert e) = insertion v.climbing
-batch_of v Remove = removal v.guards
-batch_of v (RemoveBelow limit) = removal_below limit v.guards
+abbrev pub hunt_batch : HuntPart → Act → Batch
+hunt_batch v (Insert e) = insertion v.climbing
+hunt_batch v Remove = removal v.guards
+hunt_batch v (RemoveBelow limit) = removal_below limit v.guards
 
 -- the node of the last guard is Available: the entry that it holds has its place
 abbrev pub settled : List Guard → List Guard

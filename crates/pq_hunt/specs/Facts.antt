@@ -16,7 +16,7 @@ pub record HeapFacts (seats capacity size : ℕ) (of : ℕ → Flight) (nodes : 
   pub shape : IsShape size nodes  -- fact 1
   pub ordered : IsOrdered nodes  -- fact 2
   pub holds : m ≡ sorted_of (standing nodes)  -- fact 3: the multiset is the Available entries and the entries in hand
-  pub flown : IsFlown seats of nodes  -- the rest of fact 3
+  pub flown : IsFlown seats of nodes  -- fact 4
 
 -- the marks are steps from the multiset m, and with the multiset that they leave the facts hold of these nodes
 pub record StepsTo (seats capacity size : ℕ) (of : ℕ → Flight) (nodes : List Node) (m : List Entry) (marks : List Mark)

@@ -13,8 +13,8 @@ pub record Flight : Type 0 where
   pub place : ℕ  -- the node where the owner looks for the entry next
   pub waiting : ℕ  -- 1 where its place in the history is not drawn, else 0
 
--- Fact 3, its second and third sentence: each Busy entry belongs to the insert in flight of its owner, whose place is
--- not drawn. It stands at the node where its owner looks for it, or at an ancestor of that node.
+-- Fact 4: each Busy entry belongs to the insert in flight of its owner, whose place is not drawn. It stands at the node
+-- where its owner looks for it, or at an ancestor of that node.
 pub record IsFlown (seats : ℕ) (of : ℕ → Flight) (nodes : List Node) : Type 0 where
   pub entry : (i o : ℕ) (e : Entry) → node nodes i ≡ Busy o e → e ≡ (of o).entry
   pub place : (i o : ℕ) (e : Entry) → node nodes i ≡ Busy o e → IsAtOrAbove i (of o).place
@@ -36,7 +36,7 @@ abbrev pub looking_at : Flight → ℕ → Flight
 looking_at f place = flight f.entry place f.waiting
 
 -- each owner waits for so much less after a step, and nothing else of the flights changes
-pub record Waits (of of' : ℕ → Flight) (less : ℕ → ℕ) : Type 0 where
+pub record WaitsLess (of of' : ℕ → Flight) (less : ℕ → ℕ) : Type 0 where
   pub entries : (o : ℕ) → (of' o).entry ≡ (of o).entry
   pub places : (o : ℕ) → (of' o).place ≡ (of o).place
   pub waits : (o : ℕ) → (of' o).waiting + less o ≡ (of o).waiting

@@ -10,9 +10,9 @@ use Rattle.pq_hunt.specs.declared.nodes.Node.{Node}
 use Rattle.pq_hunt.specs.declared.nodes.Node.TheVariants.{Empty as EmptyNode, Available, Busy, Hole}
 use Rattle.pq_hunt.specs.Nodes.{node, busy_of}
 use Rattle.pq_hunt.specs.Order.{HasWord, MayStandOver, MaySettle}
-use Rattle.pq_hunt.specs.Flights.{Flight, flight, looking_at, IsOther, Waits}
+use Rattle.pq_hunt.specs.Flights.{Flight, flight, looking_at, IsOther, WaitsLess}
 use Rattle.pq_hunt.specs.Facts.{HeapFacts, StepsTo}
-use Rattle.pq_hunt.specs.Letters.{IsTold}
+use Rattle.pq_hunt.specs.Letters.{IsClimbing}
 use Rattle.pq_hunt.specs.Words.{Means}
 use Rattle.pq_hunt.specs.Marks.{IsRemoval, MayGet, drawn_marks, last_marks, above_marks}
 
@@ -42,7 +42,7 @@ abbrev pub SettlesAreSteps : Type 0
 SettlesAreSteps = (seats capacity size : ℕ) (of of' : ℕ → Flight) (nodes : List Node) (m : List Entry) (c o : ℕ)
     (e : Entry)
     → HeapFacts seats capacity size of nodes m → node nodes c ≡ Busy o e → MaySettle nodes c e
-    → Waits of of' (λ p. busy_of p (node nodes c))
+    → WaitsLess of of' (λ p. busy_of p (node nodes c))
     → StepsTo seats capacity size of' (set nodes c (Available e)) m (mark o (Insert e) Done ∷ [])
 
 -- an owner that does not find its entry looks for it at the parent
@@ -69,7 +69,7 @@ abbrev pub DrawsAreSteps : Type 0
 DrawsAreSteps = (seats capacity size seat : ℕ) (act : Act) (of of' : ℕ → Flight) (nodes : List Node) (m : List Entry)
     (e l : Entry)
     → HeapFacts seats capacity size of nodes m → 2 ≤ size → HasWord (node nodes 1) e → HasWord (node nodes size) l
-    → MayGet act e → Waits of of' (λ p. busy_of p (node nodes 1) + busy_of p (node nodes size))
+    → MayGet act e → WaitsLess of of' (λ p. busy_of p (node nodes 1) + busy_of p (node nodes size))
     → StepsTo seats capacity (size - 1) of' (set (set nodes 1 (Hole l)) size EmptyNode) m
     (drawn_marks seat act e (node nodes 1) (node nodes size))
 
@@ -78,7 +78,7 @@ abbrev pub LastDrawsAreSteps : Type 0
 LastDrawsAreSteps = (seats capacity seat : ℕ) (act : Act) (of of' : ℕ → Flight) (nodes : List Node) (m : List Entry)
     (e : Entry)
     → HeapFacts seats capacity 1 of nodes m → HasWord (node nodes 1) e → MayGet act e
-    → Waits of of' (λ p. busy_of p (node nodes 1))
+    → WaitsLess of of' (λ p. busy_of p (node nodes 1))
     → StepsTo seats capacity 0 of' (set nodes 1 EmptyNode) m (last_marks seat act e (node nodes 1))
 
 -- A remover that sees no hole at the root, and there a key that is not below its limit: the root's insert, where the
@@ -87,7 +87,7 @@ abbrev pub AboveIsAStep : Type 0
 AboveIsAStep = (seats capacity size seat limit : ℕ) (of of' : ℕ
     → Flight) (nodes : List Node) (m : List Entry) (e : Entry)
     → HeapFacts seats capacity size of nodes m → 1 ≤ size → HasWord (node nodes 1) e → limit ≤ e.key
-    → Waits of of' (λ p. busy_of p (node nodes 1))
+    → WaitsLess of of' (λ p. busy_of p (node nodes 1))
     → StepsTo seats capacity size of' (set nodes 1 (Available e)) m (above_marks seat limit (node nodes 1))
 
 -- the word of a child moves up into the hole, where its entry is below the one in hand and may stand over the other
@@ -118,19 +118,19 @@ QuietHeapsAreNotBusy = (seats capacity size : ℕ) (of : ℕ → Flight) (nodes 
 -- an owner whose place is drawn, and that has not taken its call over, has a letter
 abbrev pub PlacedHaveLetters : Type 0
 PlacedHaveLetters = (f : Flight) (climbing letters : ℕ)
-    → IsTold f climbing letters → climbing ≡ 1 → f.waiting ≡ 0 → letters ≡ 1
+    → IsClimbing f climbing letters → climbing ≡ 1 → f.waiting ≡ 0 → letters ≡ 1
 
 -- a draw by another seat leaves an owner told, where that seat owes it a letter for each place drawn for it
 abbrev pub DrawsTell : Type 0
 DrawsTell = (of of' : ℕ → Flight) (less : ℕ → ℕ) (o climbing letters letters' : ℕ)
-    → Waits of of' less → IsTold (of o) climbing letters → letters' ≡ letters + less o
-    → IsTold (of' o) climbing letters'
+    → WaitsLess of of' less → IsClimbing (of o) climbing letters → letters' ≡ letters + less o
+    → IsClimbing (of' o) climbing letters'
 
 -- a draw of its own leaves it told, where it climbs no more
 abbrev pub SettlesTell : Type 0
 SettlesTell = (of of' : ℕ → Flight) (less : ℕ → ℕ) (o climbing climbing' letters : ℕ)
-    → Waits of of' less → IsTold (of o) climbing letters → climbing' + less o ≡ climbing
-    → IsTold (of' o) climbing' letters
+    → WaitsLess of of' less → IsClimbing (of o) climbing letters → climbing' + less o ≡ climbing
+    → IsClimbing (of' o) climbing' letters
 
 -- a word says one thing of its node
 abbrev pub WordsMeanOneNode : Type 0

@@ -37,7 +37,7 @@ use Rattle.pq_nodes.specs.Layout.{lock_of, word_of}
 use Rattle.pq_hunt.specs.Layout.{heap_lock, size_word, is_lock, word_count}
 use Rattle.pq_hunt.specs.Views.{idle}
 use Rattle.pq_nodes.specs.Facts.{locks_in, words_in}
-use Rattle.pq_nodes.specs.Views.{IsApart}
+use Rattle.pq_nodes.specs.Views.{HaveNodesApart}
 use Rattle.pq_hunt.specs.Ties.{IsInserting, HuntTied}
 use Rattle.pq_words.specs.declared.letters.Letter.{Letter}
 use Rattle.pq_words.specs.declared.letters.Letter.TheVariants.{Nothing, At, Back}
@@ -162,11 +162,11 @@ module _ (k : Limits) (s : Table HuntPart) (h : Holds hunt_rule k s) where
           tree = frame_keeps hunt_nodes s.words ps t.nodes t.tree j v.post pat ws p' (same_locks s.words me 0 (omega arith))
               (same_words s.words me 0 (omega arith)) refl (λ i has. has) (λ i has. has);
           facts = t.facts;
-          free = λ e. other 25 (λ z. omega arith) ∙ t.free (sym (other 24 (λ z. omega arith)) ∙ e);
-          held = λ i q to has. let old : (q.own.size_counted ≡ t.size) × (slice_index s.words 25 ≡ q.own.size_stored) = ⊎_elim
-              (λ e. subst (λ (z : Post HuntPart). (z.own.size_counted ≡ t.size) × (slice_index s.words 25 ≡ z.own.size_stored)) e.1 (t.held j v.post pat (subst (λ (z : Post HuntPart). Contains z.locks heap_lock) (sym e.1) has)))
+          free = λ e. other size_word (λ z. omega arith) ∙ t.free (sym (other heap_lock (λ z. omega arith)) ∙ e);
+          held = λ i q to has. let old : (q.own.size_counted ≡ t.size) × (slice_index s.words size_word ≡ q.own.size_stored) = ⊎_elim
+              (λ e. subst (λ (z : Post HuntPart). (z.own.size_counted ≡ t.size) × (slice_index s.words size_word ≡ z.own.size_stored)) e.1 (t.held j v.post pat (subst (λ (z : Post HuntPart). Contains z.locks heap_lock) (sym e.1) has)))
               (λ a. t.held i q a.1 has) (at_set ps j i p' q to) in
-              (old.0, other 25 (λ z. omega arith) ∙ old.1);
+              (old.0, other size_word (λ z. omega arith) ∙ old.1);
           told = λ i q to pos. ⊎_elim
               (λ e. subst (λ (z : Post HuntPart). IsInserting ws (set ps j p') t.of z) e.1 (record {
                 told = record { most = omega arith; told = let o = owed me in omega (arith, here) };

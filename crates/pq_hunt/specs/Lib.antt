@@ -17,7 +17,9 @@ pub mod LawsHold
 pub mod Seen
 pub mod Steps
 pub mod NodeParts
-pub mod Passes
+pub mod HeldPosts
+pub mod Climbing
+pub mod Sifting
 pub mod Tables
 pub mod Turns
 pub mod Queues

@@ -7,7 +7,7 @@ use Rattle.pq_hunt.specs.declared.views.HuntPart.{HuntPart}
 use Rattle.pq_hunt.specs.Layout.{is_lock, word_count}
 use Rattle.pq_hunt.specs.NodeParts.{IsLockTaken, freed}
 use Rattle.pq_hunt.specs.Views.{idle}
-use Rattle.pq_hunt.specs.Batches.{batch_of, after_draw}
+use Rattle.pq_hunt.specs.Batches.{hunt_batch, after_draw}
 use Rattle.pq_hunt.specs.Ties.{HuntTied}
 
 -- the seat has its letter, or its call: nothing is in flight any more
@@ -29,7 +29,7 @@ hunt_rule = record {
   ties = HuntTied;
   taken = λ k v i w. IsLockTaken k.capacity v i w;
   freed = λ k v i. freed v i;
-  batch = λ k p act n. batch_of p.own act;
+  batch = λ k p act n. hunt_batch p.own act;
   drawn = λ k p act n. after_draw p.own act;
   told = told;
   knows = KnowsLetter;

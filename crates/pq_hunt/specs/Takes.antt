@@ -21,7 +21,20 @@ use Rattle.pq_hunt.specs.declared.views.HuntPart.{HuntPart}
 use Rattle.pq_hunt.specs.declared.nodes.Node.TheVariants.{Empty, Hole}
 use Rattle.pq_nodes.specs.Views.{guard}
 use Rattle.pq_hunt.specs.Views.{idle}
-use Rattle.pq_hunt.specs.Passes.{at_hole, removing, saying, IsUsed, AreApart}
+use Rattle.pq_hunt.specs.HeldPosts.{at_hole, removing, saying}
+use Rattle.pq_words.specs.HeapWords.{FitsHeapWord}
+use Rattle.pq_hunt.specs.declared.nodes.Node.{Node}
+use Rattle.pq_hunt.specs.declared.nodes.Node.TheVariants.{Busy}
+use Rattle.pq_hunt.specs.Order.{HasWord}
+
+-- the word is one that a node may have, and says that the node has an entry
+pub record IsUsed (word : HeapWord) : Type 0 where
+  pub fits : FitsHeapWord word
+  pub has : HasWord (node_of word) word.entry
+
+-- no owner has both nodes Busy
+abbrev pub AreApart : Node → Node → Type 0
+AreApart r l = (o : ℕ) (e d : Entry) → r ≡ Busy o e → l ≡ Busy o d → ⊥
 
 -- a removal takes nothing of an entry with its key at this limit or above it, and may else take it
 abbrev pub IsBarred : Act → Entry → Option ℕ → Type 0
@@ -65,8 +78,8 @@ module _ {R : Type 0} (q : Shared R HuntPart) (p p' : SeatPass R HuntPart) (act 
     pub call : MakesCall (known p) place act (replies.Got got) (known p')
     pub knows : IsInformed q p'
 
-  abbrev pub IsTaken : Taken → Type 0
-  IsTaken (takes.Empty place) = IsAnswered place replies.Empty
-  IsTaken (takes.Above place) = (limit : ℕ) × (act ≡ RemoveBelow limit) × IsAnswered place replies.Above
-  IsTaken (takes.Last got place) = MayGet act got × IsAnswered place (replies.Got got)
-  IsTaken (takes.Sift got place hand) = MayGet act got × IsOpened got place hand
+  abbrev pub HasTaken : Taken → Type 0
+  HasTaken (takes.Empty place) = IsAnswered place replies.Empty
+  HasTaken (takes.Above place) = (limit : ℕ) × (act ≡ RemoveBelow limit) × IsAnswered place replies.Above
+  HasTaken (takes.Last got place) = MayGet act got × IsAnswered place (replies.Got got)
+  HasTaken (takes.Sift got place hand) = MayGet act got × IsOpened got place hand

@@ -14,7 +14,7 @@ use Rattle.pq_hunt.specs.Guards.{Guard}
 use Rattle.pq_hunt.specs.declared.views.HuntPart.{HuntPart}
 use Rattle.pq_hunt.specs.Layout.{heap_lock, size_word, word_count}
 use Rattle.pq_hunt.specs.Flights.{Flight}
-use Rattle.pq_hunt.specs.Letters.{IsTold}
+use Rattle.pq_hunt.specs.Letters.{IsClimbing}
 use Rattle.pq_hunt.specs.Facts.{HeapFacts}
 use Rattle.pq_hunt.specs.NodeParts.{hunt_nodes}
 
@@ -23,7 +23,7 @@ use Rattle.pq_hunt.specs.NodeParts.{hunt_nodes}
 -- or it has its place, and a letter tells it.
 pub record IsInserting (words : List ℕ) (posts : List (Post HuntPart)) (of : ℕ → Flight)
     (p : Post HuntPart) : Type 0 where
-  pub told : IsTold (of p.number) p.own.climbing (letter_count p.number words posts)
+  pub told : IsClimbing (of p.number) p.own.climbing (letter_count p.number words posts)
   pub place : p.own.climbing ≡ 1 → (of p.number).place ≡ p.own.place
   pub flies : p.own.climbing ≡ 1 → (e : Entry) × (p.flight ≡ Some e) × ((of p.number).entry ≡ e)
   pub rests : p.own.climbing ≡ 0 → p.flight ≡ None
@@ -34,7 +34,7 @@ pub record HuntTied (k : Limits) (words : List ℕ) (posts : List (Post HuntPart
   pub size : ℕ
   pub of : ℕ → Flight
   pub nodes : List Node
-  -- the nodes count as their words say, and those that are locked as the views name them
+  -- fact 6: the nodes count as their words say, and those that are locked as the views name them
   pub tree : NodeFacts hunt_nodes words posts nodes
   pub facts : HeapFacts k.seats k.capacity size of nodes m
   -- so does the size
@@ -45,7 +45,7 @@ pub record HuntTied (k : Limits) (words : List ℕ) (posts : List (Post HuntPart
   -- who waits has a seat
   pub borne : (n : ℕ) → 1 ≤ (of n).waiting
       → (j : ℕ) × (p : Post HuntPart) × (get_elem? posts j ≡ some p) × (p.number ≡ n) × (0 < n)
-  -- who owes a letter still holds the root's lock
+  -- fact 5, beside `told`: who owes a letter still holds the root's lock
   pub owing : (j : ℕ) (p : Post HuntPart) → get_elem? posts j ≡ some p
       → (p.owed ≡ []) ⊎ ((g : Guard) × Contains p.own.guards g × (g.node ≡ 1))
   -- each letter names a place

@@ -13,7 +13,7 @@ use Rattle.pq_seats.specs.Passes.{limits_of, view_of, known, IsInformed}
 use Rattle.pq_hunt.specs.declared.views.HuntPart.{HuntPart}
 use Rattle.pq_hunt.specs.Views.{idle}
 use Rattle.pq_nodes.specs.Passes.{ComesTo}
-use Rattle.pq_hunt.specs.Passes.{in_flight}
+use Rattle.pq_hunt.specs.HeldPosts.{in_flight}
 
 -- The insert is done at this place, and the seat holds nothing
 pub record IsDone {R : Type 0} (q : Shared R HuntPart) (p p' : SeatPass R HuntPart) (e : Entry)

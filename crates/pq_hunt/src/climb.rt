@@ -15,7 +15,8 @@ ghost use Rattle.pq_nodes.specs.Views.{guard};
 ghost use Rattle.pq_hunt.specs.Views.{idle};
 ghost use Rattle.pq_hunt.specs.Steps.{busy_number, missing};
 ghost use Rattle.pq_nodes.specs.Passes.{ComesTo};
-ghost use Rattle.pq_hunt.specs.Passes.{in_flight, guarding_flight, IsPaired, TookPair};
+ghost use Rattle.pq_hunt.specs.HeldPosts.{in_flight, guarding_flight};
+ghost use Rattle.pq_hunt.specs.Climbing.{IsPaired, TookPair};
 ghost use Rattle.pq_hunt.specs.Turns.{IsTurned, IsDone};
 ghost use Rattle.pq_hunt.specs.Tables.{IsHeapTable};
 

@@ -10,7 +10,7 @@ ghost use Rattle.pq_seats.specs.Passes.{limits_of, view_of, known, Belongs, IsSa
 ghost use Rattle.pq_hunt.specs.Views.{idle};
 ghost use Rattle.pq_hunt.specs.Steps.{busy_number};
 ghost use Rattle.pq_nodes.specs.Passes.{ComesTo};
-ghost use Rattle.pq_hunt.specs.Passes.{at_heap, in_flight};
+ghost use Rattle.pq_hunt.specs.HeldPosts.{at_heap, in_flight};
 ghost use Rattle.pq_hunt.specs.Tables.{IsHeapTable};
 
 use crate::accesses::{look_at_size, make_busy, store_size};

@@ -3,7 +3,7 @@ ghost use Rattle.std.specs.Prelude.{◌≡◌, ◌<◌, ◌≤◌, Contains};
 ghost use Rattle.pq_seats.specs.Passes.{limits_of, view_of, Belongs, IsSamePass};
 ghost use Rattle.pq_nodes.specs.Passes.{ComesTo};
 ghost use Rattle.pq_hunt.specs.Layout as layout;
-ghost use Rattle.pq_hunt.specs.Passes.{TookHeap, without_heap};
+ghost use Rattle.pq_hunt.specs.HeldPosts.{TookHeap, without_heap};
 ghost use Rattle.pq_hunt.specs.Tables.{IsHeapTable};
 
 use crate::layout::HEAP_LOCK;

@@ -18,8 +18,9 @@ ghost use Rattle.pq_hunt.specs.Marks.{IsRemoval, MayGet};
 ghost use Rattle.pq_nodes.specs.Views.{guard};
 ghost use Rattle.pq_hunt.specs.Views.{idle};
 ghost use Rattle.pq_nodes.specs.Passes.{ComesTo};
-ghost use Rattle.pq_hunt.specs.Passes.{at_heap, at_hole, removing, saying, IsUsed, AreApart, telling};
-ghost use Rattle.pq_hunt.specs.Takes.{IsBarred, MayGetRoot, IsAnswered, IsPlaced, IsOpened, IsTaken};
+ghost use Rattle.pq_hunt.specs.HeldPosts.{at_heap, at_hole, removing, saying, telling};
+ghost use Rattle.pq_hunt.specs.Takes.{IsUsed, AreApart};
+ghost use Rattle.pq_hunt.specs.Takes.{IsBarred, MayGetRoot, IsAnswered, IsPlaced, IsOpened, HasTaken};
 ghost use Rattle.pq_hunt.specs.Tables.{IsHeapTable};
 
 use crate::accesses::store_size;
@@ -264,7 +265,7 @@ fn take<W: Wait>(table: &HuntTable, rt: &W, pass: &mut HuntPass, act: Act) -> Ta
     requires few { length (known pass.old).calls < call_limit - 1 }
     ensures own { Belongs table.now pass.new }
     ensures same { IsSamePass pass.old pass.new }
-    ensures taken { IsTaken table.now pass.old pass.new act result }
+    ensures taken { HasTaken table.now pass.old pass.new act result }
 {
     let size = begin(table, rt, pass);
     if size == 0 {
@@ -295,7 +296,7 @@ fn take_entry<W: Wait>(
     requires few { length (known pass.old).calls < call_limit - 1 }
     ensures own { Belongs table.now pass.new }
     ensures same { IsSamePass pass.old pass.new }
-    ensures taken { IsTaken table.now pass.old pass.new act result }
+    ensures taken { HasTaken table.now pass.old pass.new act result }
 {
     if size == 1 {
         return Taken::Last(root.entry, draw_last(table, pass, act, root));

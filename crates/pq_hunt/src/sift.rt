@@ -10,8 +10,10 @@ ghost use Rattle.pq_hunt.specs.Words.{Means};
 ghost use Rattle.pq_nodes.specs.Views.{guard};
 ghost use Rattle.pq_hunt.specs.Views.{idle};
 ghost use Rattle.pq_nodes.specs.Passes.{ComesTo};
-ghost use Rattle.pq_hunt.specs.Passes.{IsHolding, Leaves, IsRank, CanFillFirst, CanRiseLeft, AtTwo};
-ghost use Rattle.pq_hunt.specs.Passes.{IsLeast, Sifted, at_hole};
+ghost use Rattle.pq_hunt.specs.HeldPosts.{IsHolding, Leaves};
+ghost use Rattle.pq_hunt.specs.Sifting.{IsRank, CanFillFirst, CanRiseLeft, AtTwo};
+ghost use Rattle.pq_hunt.specs.Sifting.{IsLeast, Sifted};
+ghost use Rattle.pq_hunt.specs.HeldPosts.{at_hole};
 ghost use Rattle.pq_hunt.specs.Tables.{IsHeapTable};
 
 use crate::accesses::fill;

@@ -7,7 +7,7 @@ use Rattle.std.proofs.lemmas.List.Elements.{Contains-append_cases}
 use Rattle.pq_seats.proofs.Lists.{in_first, in_later, in_cases, not_in}
 use Rattle.pq_nodes.specs.declared.guards.Guard.{Guard}
 use Rattle.pq_nodes.specs.Layout.{lock_of, word_of}
-use Rattle.pq_nodes.specs.Views.{guard, nodes_of, without_guard, restored, IsApart}
+use Rattle.pq_nodes.specs.Views.{guard, nodes_of, without_guard, restored, HaveNodesApart}
 
 abbrev tail_of : List ℕ → List ℕ
 tail_of [] = []
@@ -27,7 +27,7 @@ in_same {N} (y ∷ ys) (x ∷ xs) e h has = ⊎_elim
     (λ old. let r = in_same ys xs (ap tail_of e) h old in (r.0, in_later y r.0 ys r.1, r.2))
     (in_cases x h xs has)
 
-pub apart_same : {N : Type 0} → (gs gs' : List (Guard N)) → nodes_of gs' ≡ nodes_of gs → IsApart gs → IsApart gs'
+pub apart_same : {N : Type 0} → (gs gs' : List (Guard N)) → nodes_of gs' ≡ nodes_of gs → HaveNodesApart gs → HaveNodesApart gs'
 apart_same {N} [] [] e apart = tt
 apart_same {N} [] (x ∷ xs) e apart = absurd (let bad = ap (λ (z : List ℕ). length z) e in omega arith)
 apart_same {N} (y ∷ ys) [] e apart = tt
@@ -45,7 +45,7 @@ nodes_restored {N} word x [] = refl
 nodes_restored {N} word x (g ∷ gs) = restored_if (eqb (word_of g.node) word) g x gs (restored word x gs) (nodes_restored word x gs)
 
 -- a guard behind the store is the one whose word was stored, or was there and is of another node
-pub restored_cases : {N : Type 0} → (i x : ℕ) (gs : List (Guard N)) (g : Guard N) → IsApart gs → Contains gs g → g.node ≡ i → (h : Guard N) → Contains (restored (word_of i) x gs) h
+pub restored_cases : {N : Type 0} → (i x : ℕ) (gs : List (Guard N)) (g : Guard N) → HaveNodesApart gs → Contains gs g → g.node ≡ i → (h : Guard N) → Contains (restored (word_of i) x gs) h
     → (guard i x g.counted ≡ h) ⊎ ((h.node ≢ i) × Contains gs h)
 restored_cases {N} i x [] g apart has is h at = absurd (not_in g has)
 restored_cases {N} i x (y ∷ ys) g apart has is h at = ⊎_elim
@@ -66,16 +66,16 @@ restored_cases {N} i x (y ∷ ys) g apart has is h at = ⊎_elim
     (eqb_tells (word_of y.node) (word_of i))
 
 -- the first guard alone is another, or one behind it
-pub first_cases : {N : Type 0} → (g g' : Guard N) (gs : List (Guard N)) → g'.node ≡ g.node → IsApart (g ∷ gs) → (h : Guard N) → Contains (g' ∷ gs) h → (g' ≡ h) ⊎ ((h.node ≢ g.node) × Contains (g ∷ gs) h)
+pub first_cases : {N : Type 0} → (g g' : Guard N) (gs : List (Guard N)) → g'.node ≡ g.node → HaveNodesApart (g ∷ gs) → (h : Guard N) → Contains (g' ∷ gs) h → (g' ≡ h) ⊎ ((h.node ≢ g.node) × Contains (g ∷ gs) h)
 first_cases {N} g g' gs same apart h has = ⊎_elim (λ e. inl e) (λ old. inr (apart.0 h old, in_later g h gs old)) (in_cases g' h gs has)
 
-pub second_cases : {N : Type 0} → (f g g' : Guard N) (gs : List (Guard N)) → g'.node ≡ g.node → IsApart (f ∷ g ∷ gs) → (h : Guard N) → Contains (f ∷ g' ∷ gs) h → (g' ≡ h) ⊎ ((h.node ≢ g.node) × Contains (f ∷ g ∷ gs) h)
+pub second_cases : {N : Type 0} → (f g g' : Guard N) (gs : List (Guard N)) → g'.node ≡ g.node → HaveNodesApart (f ∷ g ∷ gs) → (h : Guard N) → Contains (f ∷ g' ∷ gs) h → (g' ≡ h) ⊎ ((h.node ≢ g.node) × Contains (f ∷ g ∷ gs) h)
 second_cases {N} f g g' gs same apart h has = ⊎_elim
     (λ e. inr ((λ n. apart.0 g (in_first g gs) (sym n ∙ ap (λ (z : Guard N). z.node) (sym e))), subst (Contains (f ∷ g ∷ gs)) e (in_first f (g ∷ gs))))
     (λ old. ⊎_elim (λ a. inl a) (λ b. inr (b.0, in_later f h (g ∷ gs) b.1)) (first_cases g g' gs same apart.1 h old))
     (in_cases f h (g' ∷ gs) has)
 
-pub third_cases : {N : Type 0} → (e f g g' : Guard N) (gs : List (Guard N)) → g'.node ≡ g.node → IsApart (e ∷ f ∷ g ∷ gs) → (h : Guard N) → Contains (e ∷ f ∷ g' ∷ gs) h
+pub third_cases : {N : Type 0} → (e f g g' : Guard N) (gs : List (Guard N)) → g'.node ≡ g.node → HaveNodesApart (e ∷ f ∷ g ∷ gs) → (h : Guard N) → Contains (e ∷ f ∷ g' ∷ gs) h
     → (g' ≡ h) ⊎ ((h.node ≢ g.node) × Contains (e ∷ f ∷ g ∷ gs) h)
 third_cases {N} e f g g' gs same apart h has = ⊎_elim
     (λ i. inr ((λ n. apart.0 g (in_later f g (g ∷ gs) (in_first g gs)) (sym n ∙ ap (λ (z : Guard N). z.node) (sym i))), subst (Contains (e ∷ f ∷ g ∷ gs)) i (in_first e (f ∷ g ∷ gs))))
@@ -111,18 +111,18 @@ has_without_guard {N} lock (g ∷ gs) h has ne = ⊎_elim
     (in_cases g h gs has)
 
 -- guards of different nodes, with one more behind them, and with one less
-pub apart_snoc : {N : Type 0} → (g : Guard N) (gs : List (Guard N)) → ((h : Guard N) → Contains gs h → h.node ≢ g.node) → IsApart gs → IsApart (gs ++ g ∷ [])
+pub apart_snoc : {N : Type 0} → (g : Guard N) (gs : List (Guard N)) → ((h : Guard N) → Contains gs h → h.node ≢ g.node) → HaveNodesApart gs → HaveNodesApart (gs ++ g ∷ [])
 apart_snoc {N} g [] other apart = ((λ h has. absurd (not_in h has)), tt)
 apart_snoc {N} g (x ∷ xs) other apart = (
   (λ h has. ⊎_elim (λ old. apart.0 h old) (λ b. ⊎_elim (λ e. λ same. other x (0, omega arith, refl) (sym same ∙ ap (λ (z : Guard N). z.node) (sym e))) (λ n. absurd (not_in h n)) (in_cases g h [] b)) (Contains-append_cases xs (g ∷ []) h has)),
   apart_snoc g xs (λ h has. other h (in_later x h xs has)) apart.1,
 )
 
-apart_if : {N : Type 0} → (b : Bool) (g : Guard N) (rest : List (Guard N)) → ((h : Guard N) → Contains rest h → h.node ≢ g.node) → IsApart rest → IsApart (cond b rest (g ∷ rest))
+apart_if : {N : Type 0} → (b : Bool) (g : Guard N) (rest : List (Guard N)) → ((h : Guard N) → Contains rest h → h.node ≢ g.node) → HaveNodesApart rest → HaveNodesApart (cond b rest (g ∷ rest))
 apart_if {N} true g rest other apart = apart
 apart_if {N} false g rest other apart = (other, apart)
 
-pub apart_without : {N : Type 0} → (lock : ℕ) (gs : List (Guard N)) → IsApart gs → IsApart (without_guard lock gs)
+pub apart_without : {N : Type 0} → (lock : ℕ) (gs : List (Guard N)) → HaveNodesApart gs → HaveNodesApart (without_guard lock gs)
 apart_without {N} lock [] apart = tt
 apart_without {N} lock (g ∷ gs) apart =
     apart_if (eqb (lock_of g.node) lock) g (without_guard lock gs) (λ h has. apart.0 h (without_guard_has lock gs h has).1) (apart_without lock gs apart.1)

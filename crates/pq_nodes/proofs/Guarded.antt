@@ -188,7 +188,7 @@ guard_written {V} {G} {N} k locks words words' views t j p p' g g' f at has_g sa
     })
 
 -- the guards of the view after a step that changes two of them, g to g' and h to h'
-pub record IsKept {V G N : Type 0} (k : Kind V G N) (p p' : V) (g g' h h' : G) : Type 0 where
+pub record KeepsOthers {V G N : Type 0} (k : Kind V G N) (p p' : V) (g g' h h' : G) : Type 0 where
   pub kept : (l : G) → Contains (k.guards p') l
       → (g' ≡ l) ⊎ ((h' ≡ l) ⊎ ((k.place l ≢ k.place g) × (k.place l ≢ k.place h) × Contains (k.guards p) l))
 
@@ -197,7 +197,7 @@ pub two_written : {V G N : Type 0} (k : Kind V G N) (locks words words' : ℕ �
     (p p' : V) (g g' h h' : G)
     → IsGuarded k locks words views t → get_elem? views j ≡ some p → Contains (k.guards p) g → Contains (k.guards p) h
     → k.place g ≢ k.place h → k.place g' ≡ k.place g → k.place h' ≡ k.place h
-    → IsSetAt words words' (k.place g) (k.stored g') → k.stored h' ≡ k.stored h → IsKept k p p' g g' h h'
+    → IsSetAt words words' (k.place g) (k.stored g') → k.stored h' ≡ k.stored h → KeepsOthers k p p' g g' h h'
     → IsGuarded k locks words' (set views j p') (set (set t (k.place g) (k.counted g')) (k.place h) (k.counted h'))
 two_written {V} {G} {N} k locks words words' views t j p p' g g' h h' f at has_g has_h ne same_g same_h is stored r =
     let a : ℕ = k.place g in let b : ℕ = k.place h in

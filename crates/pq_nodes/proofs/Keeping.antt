@@ -12,7 +12,7 @@ use Rattle.pq_seats.proofs.Lists.{in_first, in_later, in_cases, less_has, has_le
 use Rattle.pq_nodes.specs.declared.guards.Guard.{Guard}
 use Rattle.pq_nodes.specs.Guards.{Kind, IsGuarded}
 use Rattle.pq_nodes.specs.Layout.{lock_of, word_of}
-use Rattle.pq_nodes.specs.Views.{guard, nodes_of, without_guard, restored, exchanged, exchanged_third, IsApart}
+use Rattle.pq_nodes.specs.Views.{guard, nodes_of, without_guard, restored, exchanged, exchanged_third, HaveNodesApart}
 use Rattle.pq_nodes.specs.Parts.{NodePart, kind_of, guarding, with_node, without_node, with_word}
 use Rattle.pq_nodes.specs.Facts.{locks_in, words_in, NamesNodes, NodeFacts}
 use Rattle.pq_nodes.proofs.Guarded.{lock_taken, guard_written, guards_written, lock_freed, counted_is}
@@ -98,7 +98,7 @@ module _ {O N : Type 0} (P : NodePart O N) (words : List ℕ) (posts : List (Pos
         holds = λ g has. more g.node (mine.holds g (subst (λ (z : List (Guard N)). Contains z g) guards has));
         named = λ i has. let old = mine.named i (fewer i has) in
             (old.0, subst (λ (z : List (Guard N)). Contains z old.0) (sym guards) old.1, old.2);
-        apart = subst IsApart (sym guards) mine.apart;
+        apart = subst HaveNodesApart (sym guards) mine.apart;
       })
 
   -- the first guard's node counts as another, by a store to its word
@@ -109,7 +109,7 @@ module _ {O N : Type 0} (P : NodePart O N) (words : List ℕ) (posts : List (Pos
   refill_keeps g gs x counted p' guards is locks within =
       let i : ℕ = g.node in let ws : List ℕ = set words (word_of i) x in let g' : Guard N = guard i x counted in
       let has_g : Contains (P.guards p.own) g = subst (λ (z : List (Guard N)). Contains z g) (sym guards) (in_first g gs) in
-      let apart : IsApart (g ∷ gs) = subst IsApart guards mine.apart in
+      let apart : HaveNodesApart (g ∷ gs) = subst HaveNodesApart guards mine.apart in
       step_keeps ws p' (set nodes i counted)
       (subst (λ (z : ℕ → ℕ). IsGuarded kind z (words_in ws) (set posts id p') (set nodes i counted)) (sym (locks_stay words i x))
       (guard_written kind (locks_in words) (words_in words) (words_in ws) posts nodes id p p' g g' f.guarded here has_g refl
@@ -144,7 +144,7 @@ module _ {O N : Type 0} (P : NodePart O N) (words : List ℕ) (posts : List (Pos
               (λ e. (g, put g (Contains-append_right gs (g ∷ []) g (in_first g [])), omega arith))
               (λ old. let r = mine.named j old in (r.0, put r.0 (Contains-append_left gs (g ∷ []) r.0 r.1), r.2))
               (in_cases (lock_of i) (lock_of j) p.locks has);
-          apart = subst IsApart (sym is) (apart_snoc g gs
+          apart = subst HaveNodesApart (sym is) (apart_snoc g gs
               (λ h has e. (f.guarded.held id p h here has).locked (ap (locks_in words) e ∙ free)) mine.apart);
         })
 
@@ -170,7 +170,7 @@ module _ {O N : Type 0} (P : NodePart O N) (words : List ℕ) (posts : List (Pos
                 (has_without_guard (lock_of i) gs r.0 r.1 (λ e. l.1 (ap lock_of (sym r.2) ∙ e))),
             r.2,
           );
-          apart = subst IsApart (sym is) (apart_without (lock_of i) gs mine.apart);
+          apart = subst HaveNodesApart (sym is) (apart_without (lock_of i) gs mine.apart);
         })
 
     -- a word is stored, and its node counts as it did
@@ -225,7 +225,7 @@ module _ {O N : Type 0} (P : NodePart O N) (words : List ℕ) (posts : List (Pos
         → NodeFacts P (set words (word_of g.node) h.stored) (set posts id p') (set (set nodes g.node h.counted) h.node g.counted)
     exchange_second g h gs p' guards is locks within =
         let g' : Guard N = guard g.node h.stored h.counted in let h' : Guard N = guard h.node h.stored g.counted in
-        let apart : IsApart (g ∷ h ∷ gs) = subst IsApart guards mine.apart in
+        let apart : HaveNodesApart (g ∷ h ∷ gs) = subst HaveNodesApart guards mine.apart in
         let old : (l : Guard N) → Contains (g ∷ h ∷ gs) l → Contains (P.guards p.own) l =
         (λ l has. subst (λ (z : List (Guard N)). Contains z l) (sym guards) has) in
         exchange_keeps g h (g' ∷ h ∷ gs) (g' ∷ h' ∷ gs) p' (old g (in_first g (h ∷ gs)))
@@ -241,7 +241,7 @@ module _ {O N : Type 0} (P : NodePart O N) (words : List ℕ) (posts : List (Pos
         → NodeFacts P (set words (word_of g.node) h.stored) (set posts id p') (set (set nodes g.node h.counted) h.node g.counted)
     exchange_third g b h gs p' guards is locks within =
         let g' : Guard N = guard g.node h.stored h.counted in let h' : Guard N = guard h.node h.stored g.counted in
-        let apart : IsApart (g ∷ b ∷ h ∷ gs) = subst IsApart guards mine.apart in
+        let apart : HaveNodesApart (g ∷ b ∷ h ∷ gs) = subst HaveNodesApart guards mine.apart in
         let old : (l : Guard N) → Contains (g ∷ b ∷ h ∷ gs) l → Contains (P.guards p.own) l =
         (λ l has. subst (λ (z : List (Guard N)). Contains z l) (sym guards) has) in
         exchange_keeps g h (g' ∷ b ∷ h ∷ gs) (g' ∷ b ∷ h' ∷ gs) p' (old g (in_first g (b ∷ h ∷ gs)))
@@ -263,7 +263,7 @@ come_keeps {O} {N} P words posts nodes p f guards locks =
     let empty : NamesNodes P p = record {
       holds = λ g has. absurd (none g has);
       named = λ i has. absurd (unlocked (lock_of i) has);
-      apart = subst IsApart (sym guards) tt;
+      apart = subst HaveNodesApart (sym guards) tt;
     } in record {
       guarded = guarded_on (kind_of P) (locks_in words) (locks_in words) (words_in words) (words_in words) posts (posts ++ p ∷ [])
           nodes (λ i. refl) (λ i. refl) (λ j q g at has. ⊎_elim (λ a. (q, a, has))

@@ -6,7 +6,7 @@ use Rattle.pq_seats.specs.declared.views.Post.{Post}
 use Rattle.pq_nodes.specs.declared.guards.Guard.{Guard}
 use Rattle.pq_nodes.specs.Guards.{IsGuarded}
 use Rattle.pq_nodes.specs.Layout.{lock_of, word_of}
-use Rattle.pq_nodes.specs.Views.{IsApart}
+use Rattle.pq_nodes.specs.Views.{HaveNodesApart}
 use Rattle.pq_nodes.specs.Parts.{NodePart, kind_of}
 
 -- the lock word and the word of each node
@@ -21,7 +21,7 @@ module _ {O N : Type 0} (P : NodePart O N) where
   pub record NamesNodes (p : Post O) : Type 0 where
     pub holds : (g : Guard N) → Contains (P.guards p.own) g → Contains p.locks (lock_of g.node)
     pub named : (i : ℕ) → Contains p.locks (lock_of i) → (g : Guard N) × Contains (P.guards p.own) g × (g.node ≡ i)
-    pub apart : IsApart (P.guards p.own)
+    pub apart : HaveNodesApart (P.guards p.own)
 
   -- the nodes count as their words and guards say, and each seat's post names the nodes whose locks it holds
   pub record NodeFacts (words : List ℕ) (posts : List (Post O)) (nodes : List N) : Type 0 where

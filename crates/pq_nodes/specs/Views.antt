@@ -12,9 +12,9 @@ abbrev pub nodes_of : {N : Type 0} → List (Guard N) → List ℕ
 nodes_of gs = map (λ g. g.node) gs
 
 -- no two of the guards are of one node
-abbrev pub IsApart : {N : Type 0} → List (Guard N) → Type 0
-IsApart [] = Unit {0}
-IsApart {N} (g ∷ gs) = ((h : Guard N) → Contains gs h → h.node ≢ g.node) × IsApart gs
+abbrev pub HaveNodesApart : {N : Type 0} → List (Guard N) → Type 0
+HaveNodesApart [] = Unit {0}
+HaveNodesApart {N} (g ∷ gs) = ((h : Guard N) → Contains gs h → h.node ≢ g.node) × HaveNodesApart gs
 
 -- no guard is of this node
 abbrev pub AreOthers : {N : Type 0} → ℕ → List (Guard N) → Type 0

@@ -22,7 +22,7 @@ use Rattle.pq_nodes.proofs.GuardLists.{in_same, nodes_restored, has_without_guar
 use Rattle.pq_hunt.specs.declared.nodes.Node.TheVariants.{Empty}
 use Rattle.pq_hunt.specs.declared.views.HuntPart.{HuntPart}
 use Rattle.pq_hunt.specs.Guards.{Guard}
-use Rattle.pq_hunt.specs.Layout.{heap_lock}
+use Rattle.pq_hunt.specs.Layout.{size_word, heap_lock}
 use Rattle.pq_hunt.specs.Views.{with_guards, with_size}
 use Rattle.pq_hunt.specs.NodeParts.{hunt_nodes}
 use Rattle.pq_hunt.specs.Ties.{HuntTied}
@@ -44,7 +44,7 @@ module _ (k : Limits) (s : Table HuntPart) (h : Holds hunt_rule k s) (id : ℕ) 
   here = pat k s h id v at
 
   -- The step is on a word of a node. It leaves the heap's lock, and what the seat says of the size and of its insert
-  steps_on_node : (p' : Post HuntPart) (i x : ℕ) → 25 < i → IsSteady k s h id v at p'
+  steps_on_node : (p' : Post HuntPart) (i x : ℕ) → size_word < i → IsSteady k s h id v at p'
       → p'.own.size_stored ≡ v.post.own.size_stored → p'.own.size_counted ≡ v.post.own.size_counted
       → (Contains p'.locks heap_lock → Contains v.post.locks heap_lock)
       → ((g : Guard) → Contains v.post.own.guards g → g.node ≡ 1
@@ -52,8 +52,8 @@ module _ (k : Limits) (s : Table HuntPart) (h : Holds hunt_rule k s) (id : ℕ) 
       → NodeFacts hunt_nodes (set s.words i x) (set qs id p') t.nodes
       → HuntTied k (set s.words i x) (set qs id p') (left h.history)
   steps_on_node p' i x far steady stored counted fewer root tree =
-      let lock : get_or (set s.words i x) 24 0 ≡ get_or s.words 24 0 = get_or-set_other s.words i 24 x 0 (omega arith) in
-      let there : get_or (set s.words i x) 25 0 ≡ get_or s.words 25 0 = get_or-set_other s.words i 25 x 0 (omega arith) in
+      let lock : get_or (set s.words i x) heap_lock 0 ≡ get_or s.words heap_lock 0 = get_or-set_other s.words i heap_lock x 0 (omega arith) in
+      let there : get_or (set s.words i x) size_word 0 ≡ get_or s.words size_word 0 = get_or-set_other s.words i size_word x 0 (omega arith) in
       changed k s h id v at p' (set s.words i x) (left h.history) (record {
         number = steady.number;
         long = length-set s.words i x;
@@ -77,7 +77,7 @@ module _ (k : Limits) (s : Table HuntPart) (h : Holds hunt_rule k s) (id : ℕ) 
       → HuntTied k (set s.words (lock_of i) v.post.number) (set qs id (with_node hunt_nodes v.post g)) (left h.history)
   takes i g is tree = steps_on_node (with_node hunt_nodes v.post g) (lock_of i) v.post.number (omega arith)
       (record { number = refl; flight = refl; owed = refl; place = refl; climbing = refl; lettered = refl }) refl refl
-      (λ has. ⊎_elim (λ e. absurd (omega arith)) (λ a. a) (in_cases (lock_of g.node) 24 v.post.locks has))
+      (λ has. ⊎_elim (λ e. absurd (omega arith)) (λ a. a) (in_cases (lock_of g.node) heap_lock v.post.locks has))
       (λ x has one. inr (x, Contains-append_left v.post.own.guards (g ∷ []) x has, one)) tree
 
   -- and freed
@@ -86,7 +86,7 @@ module _ (k : Limits) (s : Table HuntPart) (h : Holds hunt_rule k s) (id : ℕ) 
       → HuntTied k (set s.words (lock_of i) 0) (set qs id (without_node hunt_nodes v.post i)) (left h.history)
   frees i root tree = steps_on_node (without_node hunt_nodes v.post i) (lock_of i) 0 (omega arith)
       (record { number = refl; flight = refl; owed = refl; place = refl; climbing = refl; lettered = refl }) refl refl
-      (λ has. (less_has (lock_of i) v.post.locks 24 has).0)
+      (λ has. (less_has (lock_of i) v.post.locks heap_lock has).0)
       (λ x has one. dite (ℕ_discrete i 1) (λ e. inl (root e))
       (λ ne. inr (x, has_without_guard (lock_of i) v.post.own.guards x has (λ e. ne (omega arith)), one))) tree
 
@@ -125,7 +125,7 @@ hunt_node_laws = record {
     node = λ j e. let same : i ≡ j = omega arith in subst (λ (z : ℕ). IsNodeTaken hunt_nodes o z o') same is;
   };
   freed = λ k o i. ap (λ (b : Bool). cond b (with_size o 0 0) (with_guards o (without_guard (lock_of i) o.guards)))
-      (ne_eqb (lock_of i) 24 (λ e. omega arith));
+      (ne_eqb (lock_of i) heap_lock (λ e. omega arith));
   nodes = λ k s h. h.tied.nodes;
   long = λ k s h. h.tied.facts.long;
   facts = λ k s h. h.tied.tree;

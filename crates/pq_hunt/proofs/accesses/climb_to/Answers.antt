@@ -4,7 +4,7 @@ use mathlib.Core.Option.{none}
 use Rattle.pq_seats.specs.Rules.{Holds}
 use Rattle.pq_hunt.specs.Rules.{hunt_rule}
 use Rattle.pq_hunt.specs.Steps as steps
-use Rattle.pq_hunt.proofs.Moves.{may_climb}
+use Rattle.pq_hunt.proofs.Allowing.Moves.{may_climb}
 use Rattle.pq_hunt.proofs.accesses.climb_to.Goals as goal
 use Rattle.pq_nodes.specs.Layout as node_layout
 

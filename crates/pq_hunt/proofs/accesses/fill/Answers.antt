@@ -4,8 +4,8 @@ use mathlib.Core.Option.{none}
 use Rattle.pq_seats.specs.Rules.{Holds}
 use Rattle.pq_hunt.specs.Rules.{hunt_rule}
 use Rattle.pq_hunt.specs.Steps as steps
-use Rattle.pq_hunt.specs.Passes.{MayStand}
-use Rattle.pq_hunt.proofs.Moves.{may_fill}
+use Rattle.pq_hunt.specs.Sifting.{MayStand}
+use Rattle.pq_hunt.proofs.Allowing.Moves.{may_fill}
 use Rattle.pq_hunt.proofs.accesses.fill.Goals as goal
 use Rattle.pq_nodes.specs.Layout as node_layout
 

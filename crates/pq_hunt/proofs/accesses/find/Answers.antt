@@ -7,8 +7,8 @@ use Rattle.pq_hunt.specs.Steps as steps
 use native.Mathlib.Decide.{ℕ_discrete}
 use mathlib.Core.Logic.{dite}
 use Rattle.std.proofs.Common.{refl}
-use Rattle.pq_hunt.proofs.Sitting.{sits_on, sits_still}
-use Rattle.pq_hunt.proofs.Moves.{may_find}
+use Rattle.pq_hunt.proofs.Calls.Sitting.{sits_on, sits_still}
+use Rattle.pq_hunt.proofs.Allowing.Moves.{may_find}
 use Rattle.pq_hunt.proofs.accesses.find.Goals as goal
 use Rattle.pq_nodes.specs.Layout as node_layout
 

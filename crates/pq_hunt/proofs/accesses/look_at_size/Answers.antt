@@ -1,5 +1,5 @@
 use Rattle.std.proofs.Common.{arith}
-use Rattle.pq_hunt.proofs.Moves.{may_look_at_size}
+use Rattle.pq_hunt.proofs.Allowing.Moves.{may_look_at_size}
 use Rattle.pq_hunt.proofs.accesses.look_at_size.Goals as goal
 
 pub load-requires : goal.load-requires

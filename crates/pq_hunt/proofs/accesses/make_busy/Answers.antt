@@ -5,10 +5,10 @@ use Rattle.pq_seats.specs.Rules.{Holds}
 use Rattle.pq_hunt.specs.Rules.{hunt_rule}
 use Rattle.pq_hunt.specs.Steps as steps
 use Rattle.std.proofs.Common.{refl}
-use Rattle.pq_hunt.proofs.Sitting.{sits_on}
+use Rattle.pq_hunt.proofs.Calls.Sitting.{sits_on}
 use Rattle.pq_hunt.specs.Words.{Means}
 use Rattle.pq_hunt.specs.declared.nodes.Node.TheVariants.{Busy}
-use Rattle.pq_hunt.proofs.Moves.{may_leaf}
+use Rattle.pq_hunt.proofs.Allowing.Moves.{may_leaf}
 use Rattle.pq_hunt.proofs.accesses.make_busy.Goals as goal
 use Rattle.pq_nodes.specs.Layout as node_layout
 

@@ -1,5 +1,5 @@
 use Rattle.std.proofs.Common.{arith}
-use Rattle.pq_hunt.proofs.Moves.{may_store_size}
+use Rattle.pq_hunt.proofs.Allowing.Moves.{may_store_size}
 use Rattle.pq_hunt.proofs.accesses.store_size.Goals as goal
 
 pub store-requires : goal.store-requires

@@ -1,7 +1,7 @@
 use Rattle.std.proofs.Common.{◌≤◌}
 use Rattle.pq_seats.specs.Passes.{limits_of, view_of, Belongs, IsSamePass}
 use Rattle.pq_nodes.specs.Passes.{ComesTo}
-use Rattle.pq_hunt.specs.Passes.{in_flight}
+use Rattle.pq_hunt.specs.HeldPosts.{in_flight}
 use Rattle.pq_hunt.proofs.climb.climb.Given as goal
 
 abbrev pub invariant-loop : goal.invariant-loop

@@ -5,10 +5,10 @@ use Rattle.pq_words.specs.declared.entries.Entry.{Entry}
 use Rattle.pq_words.specs.Entries.{raw_of}
 use Rattle.pq_hunt.specs.declared.views.HuntPart.{HuntPart}
 use Rattle.std.specs.Prelude.{Contains, ◌≤◌}
-use Rattle.pq_hunt.specs.Passes.{IsPaired}
+use Rattle.pq_hunt.specs.Climbing.{IsPaired}
 use Rattle.pq_hunt.specs.Steps.{busy_number}
-use Rattle.pq_hunt.proofs.Sitting.{within}
-use Rattle.pq_hunt.proofs.Turning as turning
+use Rattle.pq_hunt.proofs.Calls.Sitting.{within}
+use Rattle.pq_hunt.proofs.Calls.Turning as turning
 use Rattle.pq_hunt.proofs.climb.climb_once.Goals as goal
 
 pub find-requires-clause-find : goal.find-requires-clause-find

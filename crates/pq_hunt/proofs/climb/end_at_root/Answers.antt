@@ -5,9 +5,9 @@ use Rattle.pq_hunt.specs.declared.nodes.Node.TheVariants.{Busy}
 use Rattle.pq_hunt.specs.declared.views.HuntPart.{HuntPart}
 use Rattle.pq_nodes.specs.Views.{guard}
 use Rattle.pq_hunt.specs.Steps.{busy_number}
-use Rattle.pq_hunt.specs.Passes.{guarding_flight}
-use Rattle.pq_hunt.proofs.Sitting.{within}
-use Rattle.pq_hunt.proofs.Rooting as rooting
+use Rattle.pq_hunt.specs.HeldPosts.{guarding_flight}
+use Rattle.pq_hunt.proofs.Calls.Sitting.{within}
+use Rattle.pq_hunt.proofs.Calls.Rooting as rooting
 use Rattle.pq_hunt.proofs.climb.end_at_root.Goals as goal
 
 pub find_at_root-requires-clause-find : goal.find_at_root-requires-clause-find

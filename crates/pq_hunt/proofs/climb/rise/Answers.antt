@@ -3,9 +3,9 @@ use Rattle.pq_seats.specs.declared.views.View.{View}
 use Rattle.pq_hunt.specs.declared.nodes.Node.TheVariants.{Busy}
 use Rattle.pq_hunt.specs.declared.views.HuntPart.{HuntPart}
 use Rattle.pq_hunt.specs.Words.{Means}
-use Rattle.pq_hunt.proofs.Sitting.{within}
-use Rattle.pq_hunt.proofs.Leafing.{busy_means}
-use Rattle.pq_hunt.proofs.Pairs as pairs
+use Rattle.pq_hunt.proofs.Calls.Sitting.{within}
+use Rattle.pq_hunt.proofs.Calls.Leafing.{busy_means}
+use Rattle.pq_hunt.proofs.Calls.Pairs as pairs
 use Rattle.pq_hunt.proofs.climb.rise.Goals as goal
 
 pub climb_to-requires-clause-climb : goal.climb_to-requires-clause-climb

@@ -4,8 +4,8 @@ use Rattle.pq_hunt.specs.declared.nodes.Node.TheVariants.{Available}
 use Rattle.pq_hunt.specs.declared.views.HuntPart.{HuntPart}
 use Rattle.pq_hunt.specs.Words.{Means}
 use Rattle.pq_hunt.specs.Steps.{busy_number}
-use Rattle.pq_hunt.proofs.Leafing.{available_means}
-use Rattle.pq_hunt.proofs.Pairs as pairs
+use Rattle.pq_hunt.proofs.Calls.Leafing.{available_means}
+use Rattle.pq_hunt.proofs.Calls.Pairs as pairs
 use Rattle.pq_hunt.proofs.climb.settle.Goals as goal
 
 pub draw-place-requires-clause-allowed : goal.draw-place-requires-clause-allowed

@@ -2,7 +2,7 @@ use Rattle.std.proofs.Common.{ap, sym, refl, subst, arith}
 use Rattle.pq_seats.specs.declared.views.Post.{Post}
 use Rattle.pq_hunt.specs.declared.views.HuntPart.{HuntPart}
 use Rattle.std.specs.Prelude.{Contains}
-use Rattle.pq_hunt.proofs.MayDraw.{may_refuse}
+use Rattle.pq_hunt.proofs.Allowing.MayDraw.{may_refuse}
 use Rattle.pq_hunt.proofs.insert.refuse.Goals as goal
 
 pub draw-place-requires-clause-allowed : goal.draw-place-requires-clause-allowed

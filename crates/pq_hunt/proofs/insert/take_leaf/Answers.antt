@@ -3,8 +3,8 @@ use Rattle.pq_seats.specs.declared.views.View.{View}
 use Rattle.pq_hunt.specs.declared.nodes.Node.TheVariants.{Busy}
 use Rattle.pq_hunt.specs.declared.views.HuntPart.{HuntPart}
 use Rattle.pq_hunt.specs.Words.{Means}
-use Rattle.pq_hunt.proofs.Sitting.{within}
-use Rattle.pq_hunt.proofs.Leafing as leafing
+use Rattle.pq_hunt.proofs.Calls.Sitting.{within}
+use Rattle.pq_hunt.proofs.Calls.Leafing as leafing
 use Rattle.pq_hunt.proofs.insert.take_leaf.Goals as goal
 
 pub make_busy-requires-clause-leaf : goal.make_busy-requires-clause-leaf

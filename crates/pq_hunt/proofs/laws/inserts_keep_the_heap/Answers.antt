@@ -1,5 +1,5 @@
 -- Each clause is one of the events.
-use Rattle.pq_hunt.proofs.Events.{event_full, event_leaf, event_climb, event_settle, event_look, event_lost}
+use Rattle.pq_hunt.proofs.Heap.Events.{event_full, event_leaf, event_climb, event_settle, event_look, event_lost}
 use Rattle.pq_hunt.proofs.laws.inserts_keep_the_heap.Goals as goal
 
 pub returns-clause-full : goal.returns-clause-full

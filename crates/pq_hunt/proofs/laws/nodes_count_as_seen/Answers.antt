@@ -5,7 +5,7 @@ use Rattle.pq_seats.specs.Views.{post_of}
 use Rattle.pq_nodes.specs.Layout.{lock_of}
 use Rattle.pq_nodes.specs.Facts.{words_in}
 use Rattle.pq_hunt.specs.Nodes.{node}
-use Rattle.pq_hunt.proofs.Ending.{node_lock}
+use Rattle.pq_hunt.proofs.Ends.Ending.{node_lock}
 use Rattle.pq_hunt.proofs.laws.nodes_count_as_seen.Goals as goal
 
 pub returns-clause-free : goal.returns-clause-free

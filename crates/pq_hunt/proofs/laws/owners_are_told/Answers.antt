@@ -1,5 +1,5 @@
 -- Each clause is a count of letters.
-use Rattle.pq_hunt.proofs.Told.{letter_is_there, draws_tell, settles_tell}
+use Rattle.pq_hunt.proofs.Heap.Told.{letter_is_there, draws_tell, settles_tell}
 use Rattle.pq_hunt.proofs.laws.owners_are_told.Goals as goal
 
 pub returns-clause-placed : goal.returns-clause-placed

@@ -1,5 +1,5 @@
 -- Each clause is one of the events.
-use Rattle.pq_hunt.proofs.Events.{event_empty, event_draw, event_draw_last, event_above, event_sift, event_fill}
+use Rattle.pq_hunt.proofs.Heap.Events.{event_empty, event_draw, event_draw_last, event_above, event_sift, event_fill}
 use Rattle.pq_hunt.proofs.laws.removals_keep_the_heap.Goals as goal
 
 pub returns-clause-empty : goal.returns-clause-empty

@@ -1,4 +1,4 @@
-use Rattle.pq_hunt.proofs.Locking.{may_free_heap}
+use Rattle.pq_hunt.proofs.Keeping.Locking.{may_free_heap}
 use Rattle.pq_hunt.proofs.locks.free_heap.Goals as goal
 
 pub unlock-requires-clause-allowed : goal.unlock-requires-clause-allowed

@@ -1,5 +1,5 @@
 use Rattle.std.proofs.Common.{arith}
-use Rattle.pq_hunt.proofs.Locking.{may_take_heap}
+use Rattle.pq_hunt.proofs.Keeping.Locking.{may_take_heap}
 use Rattle.pq_hunt.proofs.locks.take_heap.Goals as goal
 
 pub lock-requires-clause-allowed : goal.lock-requires-clause-allowed

@@ -3,7 +3,7 @@ use Rattle.std.specs.Mem.Slots.{slots_items}
 use Rattle.std.specs.List.Sorted.{IsPermutation}
 use Rattle.pq_words.specs.declared.entries.Entry.{Entry}
 use Rattle.pq_hunt.specs.Nodes.{node, standing}
-use Rattle.pq_hunt.proofs.Ending.{next_kept, all_kept, word_says, sorted_left}
+use Rattle.pq_hunt.proofs.Ends.Ending.{next_kept, all_kept, word_says, sorted_left}
 use Rattle.pq_hunt.proofs.queue.gather.Goals as goal
 
 pub keep-requires-clause-packed : goal.keep-requires-clause-packed

@@ -6,10 +6,10 @@ use Rattle.pq_seats.specs.declared.views.Post.{Post}
 use Rattle.pq_seats.specs.declared.views.View.{View}
 use Rattle.pq_seats.specs.Views.{known_of}
 use Rattle.pq_hunt.specs.declared.views.HuntPart.{HuntPart}
-use Rattle.pq_hunt.specs.Batches.{removal, batch_of}
-use Rattle.pq_hunt.specs.Passes.{without_heap}
-use Rattle.pq_hunt.proofs.MayRemove.{may_empty}
-use Rattle.pq_hunt.proofs.Removing as removing
+use Rattle.pq_hunt.specs.Batches.{removal, hunt_batch}
+use Rattle.pq_hunt.specs.HeldPosts.{without_heap}
+use Rattle.pq_hunt.proofs.Allowing.MayRemove.{may_empty}
+use Rattle.pq_hunt.proofs.Calls.Removing as removing
 use Rattle.pq_hunt.proofs.remove.draw_empty.Goals as goal
 
 pub draw-place-requires-clause-allowed : goal.draw-place-requires-clause-allowed
@@ -34,7 +34,7 @@ returns-clause-answered c = let n = c.args.pass.now.number in let v0 = c.args.pa
     let q2 = f.post ∙ ap without_heap q1 in
     let same = removing.same_known v1 v2 (ap (λ (p : Post HuntPart). p.number) q2 ∙ sym (ap (λ (p : Post HuntPart). p.number) q1)) f.lanes f.front in record {
       rests = q2;
-      call = removing.makes (known_of v0) (known_of v0) (known_of v1) (known_of v2) c.args.act (batch_of v0.post.own c.args.act) (removal []) c.draw-place.result c.draw-place.result refl (sym same)
+      call = removing.makes (known_of v0) (known_of v0) (known_of v1) (known_of v2) c.args.act (hunt_batch v0.post.own c.args.act) (removal []) c.draw-place.result c.draw-place.result refl (sym same)
           (removing.empty_is n c.args.act c.requires.removes v0.post c.requires.begun) (omega arith) c.draw-place.ensures.call;
       knows = subst (λ (k : Known). Knows c.args.table.now.table.shared.key.seats c.args.table.now.table.shared.key.capacity k) (sym same) c.draw-place.ensures.knows;
     }

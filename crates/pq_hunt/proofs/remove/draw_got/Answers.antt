@@ -7,7 +7,7 @@ use Rattle.pq_seats.specs.declared.views.Post.{Post}
 use Rattle.pq_api.specs.Answers.{MakesCall}
 use Rattle.pq_seats.specs.Views.{known_of}
 use Rattle.pq_hunt.specs.declared.views.HuntPart.{HuntPart}
-use Rattle.pq_hunt.proofs.Removing as removing
+use Rattle.pq_hunt.proofs.Calls.Removing as removing
 use Rattle.pq_hunt.proofs.remove.draw_got.Goals as goal
 
 pub free_node-requires-clause-held : goal.free_node-requires-clause-held

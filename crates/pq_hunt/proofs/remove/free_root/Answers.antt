@@ -6,8 +6,8 @@ use Rattle.pq_seats.specs.Batches.{letters_of}
 use Rattle.pq_hunt.specs.declared.views.HuntPart.{HuntPart}
 use Rattle.pq_hunt.specs.Words.{node_of}
 use Rattle.pq_hunt.specs.Batches.{flight_at}
-use Rattle.pq_hunt.specs.Passes as passes
-use Rattle.pq_hunt.proofs.Removing as removing
+use Rattle.pq_hunt.specs.HeldPosts as posts
+use Rattle.pq_hunt.proofs.Calls.Removing as removing
 use Rattle.pq_hunt.proofs.remove.free_root.Goals as goal
 
 pub store-requires-clause-guarded : goal.store-requires-clause-guarded
@@ -57,7 +57,7 @@ returns-clause-rests c =
     let v1 = c.store.new.pass.seat.me.0 in let q1 = removing.to_word n size r counted (letters_of place (flight_at r)) d.1 x v0 v1 d.4 c.store.ensures.view in
     let v2 = c.tell.new.pass.seat.me.0 in let q2 = removing.to_one_told n size r counted place x v1 v2 q1 c.tell.ensures.view in
     let v3 = c.free_node.new.pass.seat.me.0 in let q3 = removing.to_unrooted n size r counted x v2 v3 q2 c.free_node.ensures.freed in
-    let v4 = c.free_heap.new.pass.seat.me.0 in let f = c.free_heap.ensures.freed in let q4 = f.post ∙ ap passes.without_heap q3 in
+    let v4 = c.free_heap.new.pass.seat.me.0 in let f = c.free_heap.ensures.freed in let q4 = f.post ∙ ap posts.without_heap q3 in
     record {
       post = q4;
       lanes = f.lanes ∙ (c.free_node.ensures.freed.lanes ∙ (ap (λ (z : View HuntPart). z.lanes) c.tell.ensures.view ∙ ap (λ (z : View HuntPart). z.lanes) c.store.ensures.view));

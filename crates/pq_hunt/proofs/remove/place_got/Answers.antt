@@ -12,8 +12,8 @@ use Rattle.pq_seats.specs.Batches.{Batch, own_place}
 use Rattle.pq_hunt.specs.declared.nodes.Node.TheVariants.{Busy}
 use Rattle.pq_hunt.specs.declared.views.HuntPart.{HuntPart}
 use Rattle.pq_hunt.specs.Words.{node_of}
-use Rattle.pq_hunt.specs.Batches.{flight_at, batch_of}
-use Rattle.pq_hunt.proofs.Removing as removing
+use Rattle.pq_hunt.specs.Batches.{flight_at, hunt_batch}
+use Rattle.pq_hunt.proofs.Calls.Removing as removing
 use Rattle.pq_hunt.proofs.remove.place_got.Goals as goal
 
 pub draw-place-requires-clause-allowed : goal.draw-place-requires-clause-allowed
@@ -67,6 +67,6 @@ returns-clause-placed c =
     (ap (λ (z : View HuntPart). z.front) c.tell-2.ensures.view ∙ (ap (λ (z : View HuntPart). z.front) c.tell.ensures.view ∙ ap (λ (z : View HuntPart). z.front) c.store.ensures.view)) in
     record {
       placed = q5;
-      call = removing.makes (known_of v1) (known_of v0) (known_of v2) (known_of v5) act (batch_of v1.post.own act) (record { before = flight_at r; reply = replies.Got root.entry; after = flight_at l }) place (place + c.helped-before.result) same1 (sym same) is_b (omega (arith, before)) c.draw-place.ensures.call;
+      call = removing.makes (known_of v1) (known_of v0) (known_of v2) (known_of v5) act (hunt_batch v1.post.own act) (record { before = flight_at r; reply = replies.Got root.entry; after = flight_at l }) place (place + c.helped-before.result) same1 (sym same) is_b (omega (arith, before)) c.draw-place.ensures.call;
       knows = subst (λ (k : Known). Knows c.args.table.now.table.shared.key.seats c.args.table.now.table.shared.key.capacity k) (sym same) c.draw-place.ensures.knows;
     }

@@ -4,9 +4,10 @@ use Rattle.pq_hunt.specs.declared.nodes.Node.{Node}
 use Rattle.pq_hunt.specs.declared.views.HuntPart.{HuntPart}
 use Rattle.pq_hunt.specs.Nodes.{used}
 use Rattle.pq_hunt.specs.Words.{node_of}
-use Rattle.pq_hunt.specs.Passes.{AreApart, saying}
-use Rattle.pq_hunt.proofs.Meanings.{unpacked_node}
-use Rattle.pq_hunt.proofs.Removing as removing
+use Rattle.pq_hunt.specs.Takes.{AreApart}
+use Rattle.pq_hunt.specs.HeldPosts.{saying}
+use Rattle.pq_hunt.proofs.Heap.Meanings.{unpacked_node}
+use Rattle.pq_hunt.proofs.Calls.Removing as removing
 use Rattle.pq_hunt.proofs.remove.take_last.Goals as goal
 
 pub unpack-requires : goal.unpack-requires

@@ -2,8 +2,8 @@ use Rattle.std.proofs.Common.{ap, sym, refl, ◌∙◌}
 use Rattle.pq_seats.specs.declared.views.View.{View}
 use Rattle.pq_hunt.specs.declared.views.HuntPart.{HuntPart}
 use Rattle.pq_hunt.specs.Nodes.{used}
-use Rattle.pq_hunt.proofs.Meanings.{unpacked_node}
-use Rattle.pq_hunt.proofs.Removing as removing
+use Rattle.pq_hunt.proofs.Heap.Meanings.{unpacked_node}
+use Rattle.pq_hunt.proofs.Calls.Removing as removing
 use Rattle.pq_hunt.proofs.remove.take_root.Goals as goal
 
 pub unpack-requires : goal.unpack-requires

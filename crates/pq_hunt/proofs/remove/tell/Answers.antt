@@ -1,7 +1,7 @@
 use Rattle.std.proofs.Common.{◌+◌, ap}
 use Rattle.pq_words.specs.declared.heap_words.Tag.{Tag}
 use Rattle.pq_hunt.specs.Words.{node_with}
-use Rattle.pq_hunt.proofs.Leaves.{may_leave}
+use Rattle.pq_hunt.proofs.Keeping.Leaves.{may_leave}
 use Rattle.pq_hunt.proofs.remove.tell.Goals as goal
 
 pub leave_letter-requires-clause-owed : goal.leave_letter-requires-clause-owed

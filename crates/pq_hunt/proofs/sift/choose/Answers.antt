@@ -1,7 +1,7 @@
 use Rattle.std.proofs.Common.{◌<◌, arith}
 use Rattle.pq_words.specs.Entries.{raw_of}
-use Rattle.pq_hunt.specs.Passes.{IsRank}
-use Rattle.pq_hunt.proofs.Sifted as sifted
+use Rattle.pq_hunt.specs.Sifting.{IsRank}
+use Rattle.pq_hunt.proofs.Calls.Sifted as sifted
 use Rattle.pq_hunt.proofs.sift.choose.Goals as goal
 use Rattle.pq_hunt.proofs.sift.choose.Goals.{else-in_hand-left_rank-via-then-in_hand-left_rank+else-in_hand-right_rank, else-in_hand-left_rank-via-else-in_hand-left_rank}
 

@@ -3,8 +3,8 @@ use Rattle.pq_words.specs.declared.heap_words.Tag.TheVariants as tags
 use Rattle.pq_seats.proofs.Lists.{in_first}
 use Rattle.pq_hunt.specs.declared.nodes.Node.TheVariants.{Available, Hole}
 use Rattle.pq_nodes.specs.Views.{guard}
-use Rattle.pq_hunt.proofs.Meanings.{packed_means}
-use Rattle.pq_hunt.proofs.Sifted as sifted
+use Rattle.pq_hunt.proofs.Heap.Meanings.{packed_means}
+use Rattle.pq_hunt.proofs.Calls.Sifted as sifted
 use Rattle.pq_hunt.proofs.sift.fill_hole.Goals as goal
 
 pub fill-requires-clause-fill : goal.fill-requires-clause-fill

@@ -2,8 +2,9 @@ use Rattle.std.proofs.Common.{◌+◌, ◌*◌, [], ◌∷◌, refl, arith}
 use Rattle.pq_seats.proofs.Lists.{in_first, in_later}
 use Rattle.pq_hunt.specs.declared.nodes.Node.TheVariants.{Hole}
 use Rattle.pq_nodes.specs.Views.{guard}
-use Rattle.pq_hunt.specs.Passes.{Leaves, CanFillFirst}
-use Rattle.pq_hunt.proofs.Sifted as sifted
+use Rattle.pq_hunt.specs.HeldPosts.{Leaves}
+use Rattle.pq_hunt.specs.Sifting.{CanFillFirst}
+use Rattle.pq_hunt.proofs.Calls.Sifted as sifted
 use Rattle.pq_hunt.proofs.sift.fill_two.Goals as goal
 
 pub fill_hole-requires-clause-fill : goal.fill_hole-requires-clause-fill

@@ -1,7 +1,7 @@
 use Rattle.std.proofs.Common.{◌%◌, sym, subst}
 use Rattle.pq_hunt.specs.declared.nodes.Node.{Node}
-use Rattle.pq_hunt.specs.Passes.{IsRank}
-use Rattle.pq_hunt.proofs.Meanings.{unpacked_node, entry_in_word, ranked}
+use Rattle.pq_hunt.specs.Sifting.{IsRank}
+use Rattle.pq_hunt.proofs.Heap.Meanings.{unpacked_node, entry_in_word, ranked}
 use Rattle.pq_hunt.proofs.sift.rank.Goals as goal
 
 pub returns-in_default : goal.returns-in_default

@@ -2,8 +2,8 @@ use Rattle.std.proofs.Common.{◌+◌, ◌*◌, ◌∷◌, refl, arith}
 use Rattle.pq_seats.proofs.Lists.{in_first}
 use Rattle.pq_hunt.specs.declared.nodes.Node.TheVariants.{Hole}
 use Rattle.pq_nodes.specs.Views.{guard}
-use Rattle.pq_hunt.proofs.Moves.{may_raise_second}
-use Rattle.pq_hunt.proofs.Sifted as sifted
+use Rattle.pq_hunt.proofs.Allowing.Moves.{may_raise_second}
+use Rattle.pq_hunt.proofs.Calls.Sifted as sifted
 use Rattle.pq_hunt.proofs.sift.rise_left.Goals as goal
 
 pub raise_second-requires-clause-raise : goal.raise_second-requires-clause-raise

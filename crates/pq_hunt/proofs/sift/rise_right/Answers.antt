@@ -2,9 +2,9 @@ use Rattle.std.proofs.Common.{◌+◌, ◌*◌, [], ◌∷◌, refl, arith}
 use Rattle.pq_seats.proofs.Lists.{in_first, in_later}
 use Rattle.pq_hunt.specs.declared.nodes.Node.TheVariants.{Hole}
 use Rattle.pq_nodes.specs.Views.{guard}
-use Rattle.pq_hunt.specs.Passes.{Leaves}
-use Rattle.pq_hunt.proofs.Moves.{may_raise_third}
-use Rattle.pq_hunt.proofs.Sifted as sifted
+use Rattle.pq_hunt.specs.HeldPosts.{Leaves}
+use Rattle.pq_hunt.proofs.Allowing.Moves.{may_raise_third}
+use Rattle.pq_hunt.proofs.Calls.Sifted as sifted
 use Rattle.pq_hunt.proofs.sift.rise_right.Goals as goal
 
 pub raise_third-requires-clause-raise : goal.raise_third-requires-clause-raise

@@ -2,7 +2,7 @@ use Rattle.std.proofs.Common.{◌≡◌, ℕ, ◌≤◌, [], ◌∷◌}
 use Rattle.pq_seats.specs.Seats.{Sits}
 use Rattle.pq_hunt.specs.declared.nodes.Node.TheVariants.{Hole}
 use Rattle.pq_nodes.specs.Views.{guard}
-use Rattle.pq_hunt.specs.Passes.{Leaves}
+use Rattle.pq_hunt.specs.HeldPosts.{Leaves}
 use Rattle.pq_hunt.proofs.sift.sift.Given as goal
 
 abbrev pub invariant-loop : goal.invariant-loop

@@ -3,8 +3,9 @@ use Rattle.pq_seats.proofs.Lists.{in_first, in_later}
 use Rattle.pq_hunt.specs.declared.nodes.Node.TheVariants.{Hole}
 use Rattle.pq_nodes.specs.Views.{guard}
 use Rattle.pq_hunt.specs.Words.{Means}
-use Rattle.pq_hunt.specs.Passes.{Leaves, IsHolding, IsRank, CanFillFirst, CanRiseLeft}
-use Rattle.pq_hunt.proofs.Sifted as sifted
+use Rattle.pq_hunt.specs.HeldPosts.{Leaves, IsHolding}
+use Rattle.pq_hunt.specs.Sifting.{IsRank, CanFillFirst, CanRiseLeft}
+use Rattle.pq_hunt.proofs.Calls.Sifted as sifted
 use Rattle.pq_hunt.proofs.sift.sift_one.Goals as goal
 
 pub rank-requires : goal.rank-requires

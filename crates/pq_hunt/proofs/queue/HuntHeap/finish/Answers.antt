@@ -1,5 +1,5 @@
 use Rattle.std.specs.Mem.Slots.{slots_items}
-use Rattle.pq_hunt.proofs.Ending.{says_all, shown}
+use Rattle.pq_hunt.proofs.Ends.Ending.{says_all, shown}
 use Rattle.pq_hunt.proofs.queue.HuntHeap.finish.Goals as goal
 
 pub gather-requires-clause-says : goal.gather-requires-clause-says

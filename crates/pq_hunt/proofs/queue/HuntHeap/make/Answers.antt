@@ -3,7 +3,7 @@ use Rattle.pq_seats.specs.declared.views.View.{View}
 use Rattle.pq_seats.specs.Views.{empty_post}
 use Rattle.pq_hunt.specs.declared.views.HuntPart.{HuntPart}
 use Rattle.pq_hunt.specs.Views.{idle}
-use Rattle.pq_hunt.proofs.Opening.{begins}
+use Rattle.pq_hunt.proofs.Ends.Opening.{begins}
 use Rattle.pq_hunt.proofs.queue.HuntHeap.make.Goals as goal
 
 pub open-requires : goal.open-requires

@@ -21,6 +21,7 @@ use Rattle.pq_nodes.proofs.Keeping.{frame_keeps}
 use Rattle.pq_nodes.proofs.Tables.{same_locks, same_words}
 use Rattle.pq_hunt.specs.LawsHold.Changes.{ps, pat, changed}
 use Rattle.pq_hunt.specs.NodeParts.{hunt_nodes}
+use Rattle.pq_hunt.specs.Layout.{size_word, heap_lock}
 
 -- what is left where the letters for one owner are gone
 without_if : (b : Bool) (x : ℕ × ℕ) (rest : List (ℕ × ℕ)) (y : ℕ × ℕ) → Contains (cond b rest (x ∷ rest)) y → (x ≡ y) ⊎ Contains rest y
@@ -61,7 +62,7 @@ may_leave k id v owner letter has s h at empty =
     let word : (m : ℕ) → m ≢ owner → get_or ws m 0 ≡ get_or s.words m 0 = (λ m ne. get_or-set_other s.words owner m letter 0 ne) in
     let one = one_letter hunt_rule k s h owner range.0 in
     let there = (sum_of_one owner letter v.post.owed has).0 in
-    let lock = word 24 (λ e. omega arith) in let size = word 25 (λ e. omega arith) in
+    let lock = word heap_lock (λ e. omega arith) in let size = word size_word (λ e. omega arith) in
     let sums : (m : ℕ) → sum_by (λ (p : Post HuntPart). owed_count m p.owed) (set qs id p') + owed_count m v.post.owed ≡ sum_by (λ (p : Post HuntPart). owed_count m p.owed) qs + owed_count m p'.owed =
     (λ m. sum_set (λ (p : Post HuntPart). owed_count m p.owed) qs id v.post p' here) in
     let same : (m : ℕ) → letter_count m ws (set qs id p') ≡ letter_count m s.words qs = (λ m. dite (ℕ_discrete m owner)

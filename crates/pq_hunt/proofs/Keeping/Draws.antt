@@ -36,7 +36,7 @@ use Rattle.pq_hunt.specs.Facts.{HeapFacts}
 use Rattle.pq_hunt.specs.Marks.{helped_mark}
 use Rattle.pq_hunt.specs.Guards.{Guard}
 use Rattle.pq_hunt.specs.declared.views.HuntPart.{HuntPart}
-use Rattle.pq_hunt.specs.Layout.{heap_lock}
+use Rattle.pq_hunt.specs.Layout.{size_word, heap_lock}
 use Rattle.pq_hunt.specs.Batches.{entry_at, flight_at}
 use Rattle.pq_nodes.specs.Facts.{locks_in, words_in}
 use Rattle.pq_hunt.specs.Ties.{HuntTied}
@@ -171,7 +171,7 @@ module _ (k : Limits) (s : Table HuntPart) (h : Holds hunt_rule k s) (id : ℕ) 
       let letters : (m : ℕ) → 0 < m → letter_count m ws (set qs id p') ≡ letter_count m s.words qs + (helps m b.before + helps m b.after) =
       (λ m pos. let a = ap (λ (z : ℕ). min z 1) (word m pos) in let q = sum_set (λ (p : Post HuntPart). owed_count m p.owed) qs id v.post p' here in
       let o = ap (owed_count m) owed in let o' = ap (owed_count m) owed_is in let c = new-count m first v.post.number Remove b in omega arith) in
-      let lock = word 24 (omega arith) in let there = word 25 (omega arith) in
+      let lock = word heap_lock (omega arith) in let there = word size_word (omega arith) in
       changed k s h id v at p' ws m' (record {
         number = refl;
         long = length-set s.words 0 new;
@@ -225,7 +225,7 @@ module _ (k : Limits) (s : Table HuntPart) (h : Holds hunt_rule k s) (id : ℕ) 
   abbrev pub fewer : (ℕ → ℕ) → ℕ → Flight
   fewer less q = flight (t.of q).entry (t.of q).place ((t.of q).waiting - less q)
 
-  pub fewer_waits : (less : ℕ → ℕ) → ((q : ℕ) → less q ≤ (t.of q).waiting) → flights.Waits t.of (fewer less) less
+  pub fewer_waits : (less : ℕ → ℕ) → ((q : ℕ) → less q ≤ (t.of q).waiting) → flights.WaitsLess t.of (fewer less) less
   fewer_waits less enough = record { entries = λ q. refl; places = λ q. refl; waits = λ q. let e = enough q in omega arith }
 
   pub unchanged_guards : (b : Batch) (own : HuntPart) → own.guards ≡ v.post.own.guards → IsGuarded (kind_of hunt_nodes) (locks_in s.words) (words_in s.words) (set qs id (drawn_post b own)) t.nodes

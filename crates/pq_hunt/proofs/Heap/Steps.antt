@@ -17,12 +17,12 @@ use Rattle.pq_hunt.specs.declared.nodes.Node.TheVariants.{Empty, Available, Busy
 use Rattle.pq_hunt.specs.Nodes.{node, used}
 use Rattle.pq_hunt.specs.Order.{HasWord, MaySettle}
 use Rattle.pq_hunt.specs.Marks.{MayGet, helped_mark, drawn_marks, last_marks, above_marks}
-use Rattle.pq_hunt.proofs.Counting.{busy, IsHeap, Holds}
+use Rattle.pq_hunt.proofs.Heap.Counting.{busy, IsHeap, Holds}
 use Rattle.pq_hunt.specs.LawsHold.Owners.{in_use}
-use Rattle.pq_hunt.proofs.Heaps.{used_word, draw, draw_only, settle}
-use Rattle.pq_hunt.proofs.Weights.{helped, least_root, helped_rising, helped_length, without_length, holds_drawn}
-use Rattle.pq_hunt.proofs.Weights.{holds_only, holds_settled}
-use Rattle.pq_hunt.proofs.Counts.{counted, room_where_busy}
+use Rattle.pq_hunt.proofs.Heap.Heaps.{used_word, draw, draw_only, settle}
+use Rattle.pq_hunt.proofs.Heap.Weights.{helped, least_root, helped_rising, helped_length, without_length, holds_drawn}
+use Rattle.pq_hunt.proofs.Heap.Weights.{holds_only, holds_settled}
+use Rattle.pq_hunt.proofs.Heap.Counts.{counted, room_where_busy}
 
 -- an insert that is helped, before further marks
 legal_help : (seats capacity : ℕ) (m : List Entry) (v : Node) (rest : List Mark) → (busy v ≡ 1 → length m < capacity)

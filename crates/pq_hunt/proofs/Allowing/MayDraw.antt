@@ -14,7 +14,7 @@ use Rattle.pq_hunt.specs.declared.views.HuntPart.{HuntPart}
 use Rattle.pq_hunt.specs.Layout.{heap_lock}
 use Rattle.pq_hunt.specs.Batches.{insertion, after_insert}
 use Rattle.pq_hunt.specs.Rules.{hunt_rule}
-use Rattle.pq_hunt.proofs.InsertDraws.{places_full, places_done_root, places_done_below}
+use Rattle.pq_hunt.proofs.Keeping.InsertDraws.{places_full, places_done_root, places_done_below}
 
 module _ (k : Limits) (id : ℕ) (v : View HuntPart) where
   pub may_refuse : (e : Entry) → 0 < v.post.number → v.post.owed ≡ [] → v.post.own.climbing ≡ 0 → Contains v.post.locks heap_lock → v.post.own.size_counted ≡ k.capacity → MayDraw hunt_rule k id v (Insert e) 1

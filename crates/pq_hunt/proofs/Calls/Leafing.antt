@@ -18,8 +18,10 @@ use Rattle.pq_seats.specs.declared.views.View.{View}
 use Rattle.pq_seats.specs.Views.{with_post}
 use Rattle.pq_nodes.specs.Passes.{ComesTo}
 use Rattle.pq_nodes.specs.Parts.{with_node, without_node, IsFreeable}
-use Rattle.pq_hunt.specs.Passes.{without_heap, CanLeaf, at_heap, in_flight}
+use Rattle.pq_hunt.specs.HeldPosts.{without_heap, at_heap, in_flight}
+use Rattle.pq_hunt.specs.Climbing.{CanLeaf}
 use Rattle.pq_hunt.specs.NodeParts.{hunt_nodes}
+use Rattle.pq_hunt.specs.Layout.{heap_lock}
 
 -- the word of a Busy node means it
 pub busy_means : (n : ℕ) (e : Entry) → 1 ≤ n → n ≤ 16 → Means (Busy n e) (busy_number n e)
@@ -37,8 +39,8 @@ available_means e = record { packed = record { tag = tags.Available; owner = 0; 
 lock_test : (i j : ℕ) → i ≢ j → eqb (lock_of i) (lock_of j) ≡ false
 lock_test i j ne = ne_eqb (lock_of i) (lock_of j) (λ e. ne (omega arith))
 
-heap_test : (i : ℕ) → eqb (lock_of i) 24 ≡ false
-heap_test i = ne_eqb (lock_of i) 24 (λ e. omega arith)
+heap_test : (i : ℕ) → eqb (lock_of i) heap_lock ≡ false
+heap_test i = ne_eqb (lock_of i) heap_lock (λ e. omega arith)
 
 own_test : (i : ℕ) → eqb (lock_of i) (lock_of i) ≡ true
 own_test i = eq-eqb (lock_of i) (lock_of i) refl
@@ -59,7 +61,7 @@ module _ (n leaf : ℕ) (e : Entry) (was word : ℕ) (counted : Node) where
 
   -- the heap's lock is freed first
   pub locks_left : unheaped.locks ≡ lock_of leaf ∷ []
-  locks_left = ap (λ (b : Bool). cond {A = List ℕ} b (less 24 (24 ∷ [])) (lock_of leaf ∷ less 24 (24 ∷ []))) (heap_test leaf)
+  locks_left = ap (λ (b : Bool). cond {A = List ℕ} b (less heap_lock (heap_lock ∷ [])) (lock_of leaf ∷ less heap_lock (heap_lock ∷ []))) (heap_test leaf)
 
   pub leaf_taken : without_node hunt_nodes unheaped leaf ≡ in_flight n e leaf
   leaf_taken = λ j. record {
@@ -101,14 +103,14 @@ module _ (n leaf : ℕ) (e : Entry) (was word : ℕ) (counted : Node) where
     others = [];
     guards = ap (λ (p : Post HuntPart). p.own.guards) q;
     is = refl;
-    locked = subst (λ (p : Post HuntPart). Contains p.locks 24) (sym q) (1, omega arith, refl);
+    locked = subst (λ (p : Post HuntPart). Contains p.locks heap_lock) (sym q) (1, omega arith, refl);
     next = let counted_is = ap (λ (p : Post HuntPart). p.own.size_counted) q in omega arith;
     idle = ap (λ (p : Post HuntPart). p.own.climbing) q;
     quiet = ap (λ (p : Post HuntPart). p.flight) q;
   }
 
-  pub busy_held : (v : V) → v.post ≡ busy → Contains v.post.locks 24
-  busy_held v q = subst (λ (p : Post HuntPart). Contains p.locks 24) (sym q) (1, omega arith, refl)
+  pub busy_held : (v : V) → v.post ≡ busy → Contains v.post.locks heap_lock
+  busy_held v q = subst (λ (p : Post HuntPart). Contains p.locks heap_lock) (sym q) (1, omega arith, refl)
 
   pub busy_stored : (v : V) → v.post ≡ busy → v.post.own.size_stored ≡ v.post.own.size_counted
   busy_stored v q = ap (λ (p : Post HuntPart). p.own.size_stored) q ∙ sym (ap (λ (p : Post HuntPart). p.own.size_counted) q)

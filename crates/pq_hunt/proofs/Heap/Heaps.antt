@@ -16,9 +16,9 @@ use Rattle.pq_hunt.specs.declared.nodes.Node.{Node}
 use Rattle.pq_hunt.specs.declared.nodes.Node.TheVariants.{Empty, Available, Busy, Hole}
 use Rattle.pq_hunt.specs.Nodes.{node, used, IsShape}
 use Rattle.pq_hunt.specs.Order.{HasWord, MayStandOver, MaySettle}
-use Rattle.pq_hunt.proofs.Counting.{bound, stand, bounds, stands, IsHeap, bound-le, stand-le}
+use Rattle.pq_hunt.proofs.Heap.Counting.{bound, stand, bounds, stands, IsHeap, bound-le, stand-le}
 use Rattle.pq_hunt.specs.LawsHold.Owners.{in_use}
-use Rattle.pq_hunt.proofs.Writes.{node_same, node_other, two_writes}
+use Rattle.pq_hunt.proofs.Heap.Writes.{node_same, node_other, two_writes}
 
 pub used_word : (v : Node) (e : Entry) → HasWord v e → used v ≡ 1
 used_word v e has = ⊎_elim (λ q. ap used q) (λ q. ap used q.1) has

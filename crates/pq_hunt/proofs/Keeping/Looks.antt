@@ -19,7 +19,7 @@ use Rattle.pq_hunt.specs.declared.nodes.Node.TheVariants.{Busy}
 use Rattle.pq_hunt.specs.Nodes.{node}
 use Rattle.pq_hunt.specs.Flights.{Flight, looking_at}
 use Rattle.pq_hunt.specs.Facts.{HeapFacts}
-use Rattle.pq_hunt.proofs.Events.{event_look, event_lost}
+use Rattle.pq_hunt.proofs.Heap.Events.{event_look, event_lost}
 use Rattle.pq_hunt.specs.Guards.{Guard}
 use Rattle.pq_hunt.specs.declared.views.HuntPart.{HuntPart}
 use Rattle.pq_nodes.specs.Layout.{lock_of}
@@ -29,7 +29,7 @@ use Rattle.pq_hunt.specs.Rules.{hunt_rule}
 use Rattle.pq_nodes.proofs.Keeping.{guard_counts, frame_keeps}
 use Rattle.pq_nodes.proofs.Tables.{same_locks, same_words}
 use Rattle.pq_hunt.specs.LawsHold.Changes.{ps, pat, changed, Inserts, IsSteady, steady_inserts, steady_letters}
-use Rattle.pq_hunt.proofs.Stores.{with_flight, with_flight_is}
+use Rattle.pq_hunt.proofs.Keeping.Stores.{with_flight, with_flight_is}
 use Rattle.pq_hunt.specs.NodeParts.{hunt_nodes}
 
 -- nobody owes anything
@@ -56,27 +56,27 @@ module _ (k : Limits) (s : Table HuntPart) (h : Holds hunt_rule k s) (id : ℕ) 
   -- the size is stored, under its lock
   pub stores_size : (x : ℕ) → Contains v.post.locks heap_lock → HuntTied k (set s.words size_word x) (set qs id (sizing x)) (left h.history)
   stores_size x locked =
-      let p' : Post HuntPart = sizing x in let ws : List ℕ = set s.words 25 x in
+      let p' : Post HuntPart = sizing x in let ws : List ℕ = set s.words size_word x in
       let steady : IsSteady k s h id v at p' = record { number = refl; flight = refl; owed = refl; place = refl; climbing = refl; lettered = refl } in
-      let lock : get_or ws 24 0 ≡ get_or s.words 24 0 = get_or-set_other s.words 25 24 x 0 (omega arith) in
+      let lock : get_or ws heap_lock 0 ≡ get_or s.words heap_lock 0 = get_or-set_other s.words size_word heap_lock x 0 (omega arith) in
       let long = t.long in
       let mine = (h.each id v at).held heap_lock locked in let is_mine = mine.1 in let some_number = mine.2 in
       changed k s h id v at p' ws (left h.history) (record {
         number = refl;
-        long = length-set s.words 25 x;
+        long = length-set s.words size_word x;
         size = t.size;
         of = t.of;
         nodes = t.nodes;
-        tree = frame_keeps hunt_nodes s.words qs t.nodes t.tree id v.post here ws p' (same_locks s.words 25 x (omega arith))
-            (same_words s.words 25 x (omega arith)) refl (λ i has. has) (λ i has. has);
+        tree = frame_keeps hunt_nodes s.words qs t.nodes t.tree id v.post here ws p' (same_locks s.words size_word x (omega arith))
+            (same_words s.words size_word x (omega arith)) refl (λ i has. has) (λ i has. has);
         facts = t.facts;
         sizes = record {
           free = λ e. absurd (some_number (sym is_mine ∙ (sym lock ∙ e)));
-          mine = λ has. ((t.held id v.post here has).0, get_or-set_same s.words 25 x 0 (omega arith));
+          mine = λ has. ((t.held id v.post here has).0, get_or-set_same s.words size_word x 0 (omega arith));
           theirs = inr locked;
         };
-        inserts = steady_inserts k s h id v at p' 25 x (omega arith) steady;
-        letters = steady_letters k s h id v at p' 25 x (omega arith) steady (λ g has is. inr (g, has, is));
+        inserts = steady_inserts k s h id v at p' size_word x (omega arith) steady;
+        letters = steady_letters k s h id v at p' size_word x (omega arith) steady (λ g has is. inr (g, has, is));
       })
 
   -- a view that names something else of the seat's insert alone

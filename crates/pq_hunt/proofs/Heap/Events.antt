@@ -15,21 +15,21 @@ use Rattle.pq_hunt.specs.declared.nodes.Node.{Node}
 use Rattle.pq_hunt.specs.declared.nodes.Node.TheVariants.{Empty, Available, Busy, Hole}
 use Rattle.pq_hunt.specs.Nodes.{node, used, busy_of, IsShape}
 use Rattle.pq_hunt.specs.Order.{HasWord, MayStandOver}
-use Rattle.pq_hunt.specs.Flights.{Flight, IsFlown, Waits}
+use Rattle.pq_hunt.specs.Flights.{Flight, IsFlown, WaitsLess}
 use Rattle.pq_hunt.specs.Facts.{HeapFacts, StepsTo}
 use Rattle.pq_hunt.specs.Marks.{IsRemoval}
 use Rattle.pq_hunt.specs.Laws.{FullIsAStep, LeavesKeep, ClimbsKeep, SettlesAreSteps, LooksKeep, LostHavePlaces}
 use Rattle.pq_hunt.specs.Laws.{EmptyIsAStep, DrawsAreSteps, LastDrawsAreSteps, AboveIsAStep, SiftsKeep, FillsKeep}
 use Rattle.pq_hunt.specs.Laws.{NewHeapsKeep, QuietHeapsAreNotBusy}
-use Rattle.pq_hunt.proofs.Counting.{bound, weigh, IsHeap, Holds}
+use Rattle.pq_hunt.proofs.Heap.Counting.{bound, weigh, IsHeap, Holds}
 use Rattle.pq_hunt.specs.LawsHold.Owners.{in_use}
-use Rattle.pq_hunt.proofs.Heaps.{used_word, leaf, climb, sift, fill}
-use Rattle.pq_hunt.proofs.Weights.{holds_set, holds_two}
-use Rattle.pq_hunt.proofs.Counts.{empty_at_zero, full_is_step}
-use Rattle.pq_hunt.proofs.Steps.{IsPlaced, drawn, drawn_only, settled, above}
-use Rattle.pq_hunt.proofs.Flown.{none_busy, flown_leaf, flown_climb, flown_fewer, flown_settle, flown_draw}
-use Rattle.pq_hunt.proofs.Flown.{flown_draw_only, flown_sift, flown_fill, flown_look, flown_lost}
-use Rattle.pq_hunt.proofs.Plain.{by_bounds, in_words, by_weights, in_entries}
+use Rattle.pq_hunt.proofs.Heap.Heaps.{used_word, leaf, climb, sift, fill}
+use Rattle.pq_hunt.proofs.Heap.Weights.{holds_set, holds_two}
+use Rattle.pq_hunt.proofs.Heap.Counts.{empty_at_zero, full_is_step}
+use Rattle.pq_hunt.proofs.Heap.Steps.{IsPlaced, drawn, drawn_only, settled, above}
+use Rattle.pq_hunt.proofs.Heap.Flown.{none_busy, flown_leaf, flown_climb, flown_fewer, flown_settle, flown_draw}
+use Rattle.pq_hunt.proofs.Heap.Flown.{flown_draw_only, flown_sift, flown_fill, flown_look, flown_lost}
+use Rattle.pq_hunt.proofs.Heap.Plain.{by_bounds, in_words, by_weights, in_entries}
 
 -- the facts as the proofs have them
 heap_in : (seats capacity size : ℕ) (of : ℕ → Flight) (t : List Node) (m : List Entry)
@@ -189,7 +189,7 @@ event_above seats capacity size seat limit of of' t m e f some root high w =
     (root_flown seats size of of' t e f.flown f.shape root w)
   where
     root_flown : (seats size : ℕ) (of of' : ℕ → Flight) (t : List Node) (x : Entry) → IsFlown seats of t
-        → IsShape size t → HasWord (node t 1) x → Waits of of' (λ p. busy_of p (node t 1))
+        → IsShape size t → HasWord (node t 1) x → WaitsLess of of' (λ p. busy_of p (node t 1))
         → IsFlown seats of' (set t 1 (Available x))
     root_flown seats size of of' t x f s root w = ⊎_elim
         (λ q. let same : set t 1 (Available x) ≡ t = ap (set t 1) (sym q) ∙ set-get_or t 1 Empty in

@@ -16,9 +16,9 @@ use Rattle.pq_hunt.specs.Nodes.{node, used, busy_of, IsShape}
 use Rattle.pq_hunt.specs.Order.{HasWord}
 use Rattle.pq_hunt.specs.Flights.{Flight, flight, looking_at, IsFlown, IsOther}
 use Rattle.pq_nodes.proofs.Ancestors.{parent, below_end, above_above, above_lt}
-use Rattle.pq_hunt.proofs.Writes.{node_same, node_other, two_writes, two_sums}
+use Rattle.pq_hunt.proofs.Heap.Writes.{node_same, node_other, two_writes, two_sums}
 use Rattle.pq_hunt.specs.LawsHold.Owners.{in_use, busy_own, busy_at, one_busy}
-use Rattle.pq_hunt.proofs.Heaps.{used_word}
+use Rattle.pq_hunt.proofs.Heap.Heaps.{used_word}
 
 -- where an owner has no Busy node, none is its
 pub none_busy : (o : ℕ) (x : Entry) (i size : ℕ) (t : List Node) → IsShape size t → sum_by (busy_of o) t ≡ 0

@@ -17,10 +17,11 @@ use Rattle.pq_nodes.specs.Views.{guard}
 use Rattle.pq_hunt.specs.Steps.{busy_number, looking}
 use Rattle.pq_nodes.specs.Passes.{ComesTo, HoldsTwo}
 use Rattle.pq_nodes.specs.Parts.{without_node}
-use Rattle.pq_hunt.specs.Passes.{CanFind, TookPair, IsPaired, in_flight, guarding_flight}
-use Rattle.pq_hunt.proofs.Meanings.{one_meaning}
-use Rattle.pq_hunt.proofs.Leafing.{busy_means}
-use Rattle.pq_hunt.proofs.Pairs.{holds_two, two_freed}
+use Rattle.pq_hunt.specs.Climbing.{CanFind, TookPair, IsPaired}
+use Rattle.pq_hunt.specs.HeldPosts.{in_flight, guarding_flight}
+use Rattle.pq_hunt.proofs.Heap.Meanings.{one_meaning}
+use Rattle.pq_hunt.proofs.Calls.Leafing.{busy_means}
+use Rattle.pq_hunt.proofs.Calls.Pairs.{holds_two, two_freed}
 use Rattle.pq_hunt.specs.NodeParts.{hunt_nodes}
 
 -- a word that was read and unpacked means the node that it says

@@ -22,7 +22,7 @@ use Rattle.pq_hunt.specs.Views.{idle}
 use Rattle.pq_hunt.specs.Flights.{Flight, flight}
 use Rattle.pq_hunt.specs.Ties.{HuntTied}
 use Rattle.pq_hunt.specs.Rules.{hunt_rule}
-use Rattle.pq_hunt.proofs.Events.{event_open}
+use Rattle.pq_hunt.proofs.Heap.Events.{event_open}
 use Rattle.pq_nodes.specs.Facts.{NamesNodes}
 use Rattle.pq_hunt.specs.NodeParts.{hunt_nodes}
 

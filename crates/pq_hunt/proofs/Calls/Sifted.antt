@@ -22,7 +22,8 @@ use Rattle.pq_nodes.specs.Passes.{ComesTo, TookNode}
 use Rattle.pq_nodes.specs.Parts.{with_node, without_node, IsFreeable}
 use Rattle.pq_nodes.specs.Views.{AreOthers}
 use Rattle.pq_nodes.specs.Views.{locks_of}
-use Rattle.pq_hunt.specs.Passes.{filled, MayStand, sifting, IsHolding, Leaves, IsRank, IsLeast, Sifted}
+use Rattle.pq_hunt.specs.HeldPosts.{filled, sifting, IsHolding, Leaves}
+use Rattle.pq_hunt.specs.Sifting.{MayStand, IsRank, IsLeast, Sifted}
 use Rattle.pq_nodes.proofs.Freed.{first_locks, first_guards, second_locks, second_guards, lock_has}
 use Rattle.pq_hunt.specs.NodeParts.{hunt_nodes}
 

@@ -23,8 +23,9 @@ use Rattle.pq_nodes.specs.Parts.{guarding}
 use Rattle.pq_hunt.specs.Steps.{climbed}
 use Rattle.pq_nodes.specs.Passes.{ComesTo, HoldsTwo}
 use Rattle.pq_nodes.specs.Parts.{without_node, HasGuard}
-use Rattle.pq_hunt.specs.Passes.{CanClimb, in_flight, guarding_flight, post_with}
-use Rattle.pq_hunt.proofs.MayDraw.{may_settle_below}
+use Rattle.pq_hunt.specs.Climbing.{CanClimb}
+use Rattle.pq_hunt.specs.HeldPosts.{in_flight, guarding_flight, post_with}
+use Rattle.pq_hunt.proofs.Allowing.MayDraw.{may_settle_below}
 use Rattle.pq_hunt.specs.NodeParts.{hunt_nodes}
 
 -- Two guards, of different nodes: both are freed, the second one first

@@ -11,7 +11,7 @@ use Rattle.pq_hunt.specs.declared.nodes.Node.{Node}
 use Rattle.pq_hunt.specs.declared.nodes.Node.TheVariants.{Empty, Available, Busy, Hole}
 use Rattle.pq_hunt.specs.Nodes.{node, standing}
 use Rattle.pq_hunt.specs.Order.{StandsAt, HasWord, IsOrdered}
-use Rattle.pq_hunt.proofs.Counting.{bound, stand, weigh, bounds, stands, Holds, bound-le}
+use Rattle.pq_hunt.proofs.Heap.Counting.{bound, stand, weigh, bounds, stands, Holds, bound-le}
 
 order_from_plain : (u v : Node) → ((y x : Entry) → HasWord u y → StandsAt v x → raw_of y ≤ raw_of x) → bound u ≤ stand v
 order_from_plain u Empty plain = bound-le u

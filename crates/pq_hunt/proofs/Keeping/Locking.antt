@@ -11,7 +11,7 @@ use Rattle.pq_seats.proofs.Lists.{in_later, in_cases, less_has, has_less}
 use Rattle.pq_seats.proofs.Keeps.{limits_of}
 use Rattle.pq_hunt.specs.declared.views.HuntPart.{HuntPart}
 use Rattle.pq_nodes.specs.Layout.{lock_of}
-use Rattle.pq_hunt.specs.Layout.{heap_lock}
+use Rattle.pq_hunt.specs.Layout.{size_word, heap_lock}
 use Rattle.pq_hunt.specs.Views.{with_size}
 use Rattle.pq_hunt.specs.Rules.{hunt_rule}
 use Rattle.pq_nodes.proofs.Keeping.{frame_keeps}
@@ -31,30 +31,30 @@ module _ (k : Limits) (id : ℕ) (v : View HuntPart) where
       let p' : Post HuntPart = with_lock w.post heap_lock own in
       let ws : List ℕ = set s.words heap_lock w.post.number in
       let long = t.long in
-      let here : get_or ws 24 0 ≡ w.post.number = get_or-set_same s.words 24 w.post.number 0 (omega arith) in
-      let there : get_or ws 25 0 ≡ get_or s.words 25 0 = get_or-set_other s.words 24 25 w.post.number 0 (omega arith) in
+      let here : get_or ws heap_lock 0 ≡ w.post.number = get_or-set_same s.words heap_lock w.post.number 0 (omega arith) in
+      let there : get_or ws size_word 0 ≡ get_or s.words size_word 0 = get_or-set_other s.words heap_lock size_word w.post.number 0 (omega arith) in
       let is_size = t.free zero_word in
       let steady : IsSteady k s h id w at p' = record { number = refl; flight = refl; owed = refl; place = refl; climbing = refl; lettered = refl } in (
         own,
         record { heap = λ e. (size, (let within = t.facts.shape.within in let long_nodes = t.facts.long in let limits = ap (λ (z : Limits). z.capacity) (limits_of hunt_rule k s h id w at (λ z. omega arith)) in omega arith), refl); node = λ i e. absurd (omega arith) },
         changed k s h id w at p' ws (left h.history) (record {
           number = refl;
-          long = length-set s.words 24 w.post.number;
+          long = length-set s.words heap_lock w.post.number;
           size = size;
           of = t.of;
           nodes = t.nodes;
           tree = frame_keeps hunt_nodes s.words (ps k s h id w at) t.nodes t.tree id w.post (pat k s h id w at) ws p'
-              (same_locks s.words 24 w.post.number (omega arith)) (same_words s.words 24 w.post.number (omega arith)) refl
-              (λ i has. in_later 24 (lock_of i) w.post.locks has)
-              (λ i has. ⊎_elim (λ e. absurd (omega arith)) (λ a. a) (in_cases 24 (lock_of i) w.post.locks has));
+              (same_locks s.words heap_lock w.post.number (omega arith)) (same_words s.words heap_lock w.post.number (omega arith)) refl
+              (λ i has. in_later heap_lock (lock_of i) w.post.locks has)
+              (λ i has. ⊎_elim (λ e. absurd (omega arith)) (λ a. a) (in_cases heap_lock (lock_of i) w.post.locks has));
           facts = t.facts;
           sizes = record {
             free = λ e. absurd (omega arith);
             mine = λ has. (refl, there ∙ is_size);
             theirs = inl (refl, there);
           };
-          inserts = steady_inserts k s h id w at p' 24 w.post.number (omega arith) steady;
-          letters = steady_letters k s h id w at p' 24 w.post.number (omega arith) steady (λ g has is. inr (g, has, is));
+          inserts = steady_inserts k s h id w at p' heap_lock w.post.number (omega arith) steady;
+          letters = steady_letters k s h id w at p' heap_lock w.post.number (omega arith) steady (λ g has is. inr (g, has, is));
         }),
       )
 
@@ -65,25 +65,25 @@ module _ (k : Limits) (id : ℕ) (v : View HuntPart) where
       let own : HuntPart = with_size v.post.own 0 0 in
       let p' : Post HuntPart = without_lock v.post heap_lock own in
       let ws : List ℕ = set s.words heap_lock 0 in
-      let there : get_or ws 25 0 ≡ get_or s.words 25 0 = get_or-set_other s.words 24 25 0 0 (omega arith) in
+      let there : get_or ws size_word 0 ≡ get_or s.words size_word 0 = get_or-set_other s.words heap_lock size_word 0 0 (omega arith) in
       let old = t.held id v.post (pat k s h id v at) held in
       let steady : IsSteady k s h id v at p' = record { number = refl; flight = refl; owed = refl; place = refl; climbing = refl; lettered = refl } in
       changed k s h id v at p' ws (left h.history) (record {
         number = refl;
-        long = length-set s.words 24 0;
+        long = length-set s.words heap_lock 0;
         size = t.size;
         of = t.of;
         nodes = t.nodes;
         tree = frame_keeps hunt_nodes s.words qs t.nodes t.tree id v.post (pat k s h id v at) ws p'
-            (same_locks s.words 24 0 (omega arith)) (same_words s.words 24 0 (omega arith)) refl
-            (λ i has. has_less 24 v.post.locks (lock_of i) has (λ e. omega arith))
-            (λ i has. (less_has 24 v.post.locks (lock_of i) has).0);
+            (same_locks s.words heap_lock 0 (omega arith)) (same_words s.words heap_lock 0 (omega arith)) refl
+            (λ i has. has_less heap_lock v.post.locks (lock_of i) has (λ e. omega arith))
+            (λ i has. (less_has heap_lock v.post.locks (lock_of i) has).0);
         facts = t.facts;
         sizes = record {
           free = λ e. there ∙ (old.1 ∙ (same ∙ old.0));
-          mine = λ has. absurd ((less_has 24 v.post.locks 24 has).1 refl);
+          mine = λ has. absurd ((less_has heap_lock v.post.locks heap_lock has).1 refl);
           theirs = inl (refl, there);
         };
-        inserts = steady_inserts k s h id v at p' 24 0 (omega arith) steady;
-        letters = steady_letters k s h id v at p' 24 0 (omega arith) steady (λ g has is. inr (g, has, is));
+        inserts = steady_inserts k s h id v at p' heap_lock 0 (omega arith) steady;
+        letters = steady_letters k s h id v at p' heap_lock 0 (omega arith) steady (λ g has is. inr (g, has, is));
       })

@@ -19,10 +19,10 @@ use Rattle.pq_hunt.specs.Guards.{Guard}
 use Rattle.pq_hunt.specs.declared.views.HuntPart.{HuntPart}
 use Rattle.pq_hunt.specs.Layout.{heap_lock}
 use Rattle.pq_hunt.specs.Views.{with_guards}
-use Rattle.pq_hunt.specs.Batches.{entry_at, flight_at, removal, removal_below, batch_of, settled, after_removal, after_removal_below, after_draw}
+use Rattle.pq_hunt.specs.Batches.{entry_at, flight_at, removal, removal_below, hunt_batch, settled, after_removal, after_removal_below, after_draw}
 use Rattle.pq_hunt.specs.Rules.{hunt_rule}
-use Rattle.pq_hunt.proofs.Draws.{has_entry}
-use Rattle.pq_hunt.proofs.RemovalDraws.{places_empty, places_got, places_last, places_above}
+use Rattle.pq_hunt.proofs.Keeping.Draws.{has_entry}
+use Rattle.pq_hunt.proofs.Keeping.RemovalDraws.{places_empty, places_got, places_last, places_above}
 
 -- how many marks a batch has
 pub marks_long : (n : ℕ) (act : Act) (b : Batch) → length (marks_of n act b) ≡ length b.before + 1 + length b.after
@@ -30,7 +30,7 @@ marks_long n act b = let f = length-map b.before insert_of in let g = length-map
     let l = length-append (map insert_of b.before) (mark n act b.reply ∷ map insert_of b.after) in omega arith
 
 -- a removal that finds nothing to guard
-pub empty_batch : (act : Act) (own : HuntPart) → IsRemoval act → own.guards ≡ [] → batch_of own act ≡ removal []
+pub empty_batch : (act : Act) (own : HuntPart) → IsRemoval act → own.guards ≡ [] → hunt_batch own act ≡ removal []
 empty_batch (Insert x) own removes none = absurd removes
 empty_batch Remove own removes none = ap removal none
 empty_batch (RemoveBelow limit) own removes none = ap (removal_below limit) none
@@ -45,7 +45,7 @@ empty_part (RemoveBelow limit) own removes none zero_size = ap (λ (gs : List Gu
 
 -- a removal that may take the root's entry
 pub gets_batch : (act : Act) (e : Entry) (g : Guard) (gs : List Guard) (own : HuntPart) → own.guards ≡ g ∷ gs → entry_at g.counted ≡ e → MayGet act e
-    → batch_of own act ≡ removal (g ∷ gs)
+    → hunt_batch own act ≡ removal (g ∷ gs)
 gets_batch (Insert x) e g gs own guards is may = absurd may
 gets_batch Remove e g gs own guards is may = ap removal guards
 gets_batch (RemoveBelow limit) e g gs own guards is may = ap (removal_below limit) guards
@@ -65,7 +65,7 @@ abbrev pub above : Guard → Batch
 above g = record { before = flight_at g.counted; reply = replies.Above; after = [] }
 
 pub bars_batch : (limit : ℕ) (e : Entry) (g : Guard) (gs : List Guard) (own : HuntPart) → own.guards ≡ g ∷ gs → entry_at g.counted ≡ e → limit ≤ e.key
-    → batch_of own (RemoveBelow limit) ≡ above g
+    → hunt_batch own (RemoveBelow limit) ≡ above g
 bars_batch limit e g gs own guards is high = ap (removal_below limit) guards
     ∙ ap (λ (b : Bool). cond {A = Batch} b (above g) (removal (g ∷ gs))) (ap (λ (z : Entry). leb limit z.key) is ∙ le-leb limit e.key high)
 

@@ -20,7 +20,7 @@ use Rattle.pq_seats.specs.Batches.{Batch, own_place}
 use Rattle.pq_seats.specs.Allowed.{MayDraw}
 use Rattle.pq_seats.specs.declared.views.Limits.{Limits}
 use Rattle.pq_hunt.specs.Rules.{hunt_rule}
-use Rattle.pq_hunt.proofs.Draws.{has_entry}
+use Rattle.pq_hunt.proofs.Keeping.Draws.{has_entry}
 use Rattle.pq_hunt.specs.Nodes.{used}
 use Rattle.pq_hunt.specs.Order.{HasWord}
 use Rattle.pq_hunt.specs.Words.{Means, node_with, node_of}
@@ -32,10 +32,10 @@ use Rattle.pq_hunt.specs.Views.{with_guards}
 use Rattle.pq_nodes.specs.Parts.{guarding}
 use Rattle.pq_hunt.specs.NodeParts.{HaveOwnersApart, AreUsed}
 use Rattle.pq_hunt.specs.Steps.{sizing}
-use Rattle.pq_hunt.specs.Batches.{entry_at, removal, batch_of, after_draw}
-use Rattle.pq_hunt.proofs.Meanings.{unpacked_node}
-use Rattle.pq_hunt.proofs.Pairs.{second_restored}
-use Rattle.pq_hunt.proofs.MayRemove.{may_get, may_get_last, may_bar, empty_batch, empty_part, gets_batch, gets_part, above, bars_batch, bars_part}
+use Rattle.pq_hunt.specs.Batches.{entry_at, removal, hunt_batch, after_draw}
+use Rattle.pq_hunt.proofs.Heap.Meanings.{unpacked_node}
+use Rattle.pq_hunt.proofs.Calls.Pairs.{second_restored}
+use Rattle.pq_hunt.proofs.Allowing.MayRemove.{may_get, may_get_last, may_bar, empty_batch, empty_part, gets_batch, gets_part, above, bars_batch, bars_part}
 use Rattle.pq_seats.specs.Batches.{letters_of}
 use Rattle.pq_seats.specs.declared.views.Post.{Post}
 use Rattle.pq_seats.specs.declared.views.View.{View}
@@ -45,8 +45,10 @@ use Rattle.pq_hunt.specs.declared.views.HuntPart.{HuntPart}
 use Rattle.pq_hunt.specs.Batches.{flight_at}
 use Rattle.pq_nodes.specs.Passes.{ComesTo}
 use Rattle.pq_nodes.specs.Parts.{with_node, without_node, IsFreeable, HasGuard}
-use Rattle.pq_hunt.specs.Passes.{without_heap, at_heap, at_hole, removing, saying, IsUsed, AreApart, owed_after, telling}
+use Rattle.pq_hunt.specs.HeldPosts.{without_heap, at_heap, at_hole, removing, saying, owed_after, telling}
+use Rattle.pq_hunt.specs.Takes.{IsUsed, AreApart}
 use Rattle.pq_hunt.specs.NodeParts.{hunt_nodes}
+use Rattle.pq_hunt.specs.Layout.{heap_lock}
 
 -- the letters that a draw makes, where the root and the last node count as these
 abbrev pub letters : ℕ → Node → Node → List (ℕ × ℕ)
@@ -108,11 +110,11 @@ makes before before' now now' act b b' first place is_before is_now is_b is_plac
 
 -- an empty heap
 module _ (n : ℕ) (act : Act) (removes : IsRemoval act) where
-  pub empty_is : (p : P) → p ≡ at_heap n 0 → batch_of p.own act ≡ removal []
+  pub empty_is : (p : P) → p ≡ at_heap n 0 → hunt_batch p.own act ≡ removal []
   empty_is p q = empty_batch act p.own removes (ap (λ (z : P). z.own.guards) q)
 
-  pub to_empty : (first : ℕ) (p : P) → p ≡ at_heap n 0 → placed_post p (batch_of p.own act) (after_draw p.own act) first ≡ at_heap n 0
-  to_empty first p q = ap (λ (z : P). placed_post z (batch_of z.own act) (after_draw z.own act) first) q
+  pub to_empty : (first : ℕ) (p : P) → p ≡ at_heap n 0 → placed_post p (hunt_batch p.own act) (after_draw p.own act) first ≡ at_heap n 0
+  to_empty first p q = ap (λ (z : P). placed_post z (hunt_batch z.own act) (after_draw z.own act) first) q
       ∙ (λ j. placed_post (at_heap n 0) (empty_batch act (at_heap n 0).own removes refl j) (empty_part act (at_heap n 0).own removes refl refl j) first)
 
 -- a word that says that a node is used
@@ -136,7 +138,7 @@ module _ (n size word : ℕ) (counted : Node) where
   root_has v q = subst (λ (p : P). Contains p.own.guards root) (sym q) (0, omega arith, refl)
 
   pub root_used : (v : V) → 1 ≤ size → v.post ≡ removing n [] size size (root ∷ []) → AreUsed v.post → used counted ≡ 1
-  root_used v some q all = all (subst (λ (p : P). Contains p.locks 24) (sym q) (1, omega arith, refl)) root (root_has v q) (omega arith)
+  root_used v some q all = all (subst (λ (p : P). Contains p.locks heap_lock) (sym q) (1, omega arith, refl)) root (root_has v q) (omega arith)
       (let is = ap (λ (p : P). p.own.size_counted) q in omega arith)
 
   pub read_root : (w : HeapWord) (v v' : V) → Means counted word → FitsHeapWord w → heap_number w ≡ word → v.post ≡ removing n [] size size (root ∷ []) → v'.post ≡ v.post
@@ -155,7 +157,7 @@ module _ (n size word : ℕ) (counted : Node) where
     last_has v q = subst (λ (p : P). Contains p.own.guards last) (sym q) (1, omega arith, refl)
 
     pub last_used : (v : V) → 1 ≤ size → v.post ≡ removing n [] size size (g ∷ last ∷ []) → AreUsed v.post → used counted ≡ 1
-    last_used v some q all = all (subst (λ (p : P). Contains p.locks 24) (sym q) (2, omega arith, refl)) last (last_has v q) some
+    last_used v some q all = all (subst (λ (p : P). Contains p.locks heap_lock) (sym q) (2, omega arith, refl)) last (last_has v q) some
         (let is = ap (λ (p : P). p.own.size_counted) q in omega arith)
 
     pub last_apart : (v : V) → g.node ≢ size → v.post ≡ removing n [] size size (g ∷ last ∷ []) → HaveOwnersApart v.post.own.guards → AreApart g.counted counted
@@ -222,13 +224,13 @@ module _ (n : ℕ) (root : HeapWord) (used_root : IsUsed root) where
 
     pub may_take_last : (k : Limits) (id : ℕ) (v : V) (m : ℕ) → 1 ≤ n → v.post ≡ alone 0 1 → m ≡ 1 + length (flight_at (node_of root)) → MayDraw hunt_rule k id v act m
     may_take_last k id v m low q long = may_get_last k id v (saying 1 root) act root.entry m (ap (λ (p : P). p.own.guards) q) refl long (let is = ap (λ (p : P). p.number) q in omega arith)
-        (ap (λ (p : P). p.owed) q) (ap (λ (p : P). p.own.climbing) q) (subst (λ (p : P). Contains p.locks 24) (sym q) (1, omega arith, refl)) (ap (λ (p : P). p.own.size_counted) q) used_root.has may
+        (ap (λ (p : P). p.owed) q) (ap (λ (p : P). p.own.climbing) q) (subst (λ (p : P). Contains p.locks heap_lock) (sym q) (1, omega arith, refl)) (ap (λ (p : P). p.own.size_counted) q) used_root.has may
 
-    pub last_batch : (p : P) → p ≡ alone 0 1 → batch_of p.own act ≡ removal (saying 1 root ∷ [])
+    pub last_batch : (p : P) → p ≡ alone 0 1 → hunt_batch p.own act ≡ removal (saying 1 root ∷ [])
     last_batch p q = gets_batch act root.entry (saying 1 root) [] p.own (ap (λ (z : P). z.own.guards) q) root_entry may
 
-    pub to_last_drawn : (first : ℕ) (p : P) → p ≡ alone 0 1 → placed_post p (batch_of p.own act) (after_draw p.own act) first ≡ drawn_alone first 0 Empty
-    to_last_drawn first p q = ap (λ (z : P). placed_post z (batch_of z.own act) (after_draw z.own act) first) q
+    pub to_last_drawn : (first : ℕ) (p : P) → p ≡ alone 0 1 → placed_post p (hunt_batch p.own act) (after_draw p.own act) first ≡ drawn_alone first 0 Empty
+    to_last_drawn first p q = ap (λ (z : P). placed_post z (hunt_batch z.own act) (after_draw z.own act) first) q
         ∙ ((λ j. placed_post (alone 0 1) (gets_batch act root.entry (saying 1 root) [] (alone 0 1).own refl root_entry may j) (gets_part act root.entry (saying 1 root) [] (alone 0 1).own refl root_entry may j) first)
         ∙ ap (λ (owed : List (ℕ × ℕ)). removing n owed 0 0 (guard 1 (heap_number root) Empty ∷ [])) (no_more first (node_of root)))
 
@@ -238,13 +240,13 @@ module _ (n : ℕ) (root : HeapWord) (used_root : IsUsed root) where
   module _ (size limit : ℕ) (high : limit ≤ root.entry.key) where
     pub may_say_above : (k : Limits) (id : ℕ) (v : V) (m : ℕ) → 1 ≤ n → 1 ≤ size → v.post ≡ alone size size → m ≡ 1 + length (flight_at (node_of root)) → MayDraw hunt_rule k id v (RemoveBelow limit) m
     may_say_above k id v m low some q long = may_bar k id v (saying 1 root) limit root.entry m (ap (λ (p : P). p.own.guards) q) refl long (let is = ap (λ (p : P). p.number) q in omega arith)
-        (ap (λ (p : P). p.owed) q) (ap (λ (p : P). p.own.climbing) q) (subst (λ (p : P). Contains p.locks 24) (sym q) (1, omega arith, refl)) (let is = ap (λ (p : P). p.own.size_counted) q in omega arith) used_root.has high
+        (ap (λ (p : P). p.owed) q) (ap (λ (p : P). p.own.climbing) q) (subst (λ (p : P). Contains p.locks heap_lock) (sym q) (1, omega arith, refl)) (let is = ap (λ (p : P). p.own.size_counted) q in omega arith) used_root.has high
 
-    pub above_batch : (p : P) → p ≡ alone size size → batch_of p.own (RemoveBelow limit) ≡ above (saying 1 root)
+    pub above_batch : (p : P) → p ≡ alone size size → hunt_batch p.own (RemoveBelow limit) ≡ above (saying 1 root)
     above_batch p q = bars_batch limit root.entry (saying 1 root) [] p.own (ap (λ (z : P). z.own.guards) q) root_entry high
 
-    pub to_above_drawn : (first : ℕ) (p : P) → p ≡ alone size size → placed_post p (batch_of p.own (RemoveBelow limit)) (after_draw p.own (RemoveBelow limit)) first ≡ drawn_alone first size (Available root.entry)
-    to_above_drawn first p q = ap (λ (z : P). placed_post z (batch_of z.own (RemoveBelow limit)) (after_draw z.own (RemoveBelow limit)) first) q
+    pub to_above_drawn : (first : ℕ) (p : P) → p ≡ alone size size → placed_post p (hunt_batch p.own (RemoveBelow limit)) (after_draw p.own (RemoveBelow limit)) first ≡ drawn_alone first size (Available root.entry)
+    to_above_drawn first p q = ap (λ (z : P). placed_post z (hunt_batch z.own (RemoveBelow limit)) (after_draw z.own (RemoveBelow limit)) first) q
         ∙ ((λ j. placed_post (alone size size) (bars_batch limit root.entry (saying 1 root) [] (alone size size).own refl root_entry high j) (bars_part limit root.entry (saying 1 root) [] (alone size size).own refl root_entry high j) first)
         ∙ (λ j. removing n (no_more first (node_of root) j) size size (guard 1 (heap_number root) (Available (root_entry j)) ∷ [])))
 
@@ -276,18 +278,18 @@ module _ (n size : ℕ) (root last : HeapWord) (act : Act) (used_root : IsUsed r
 
   pub may_take : (k : Limits) (id : ℕ) (v : V) (m : ℕ) → 1 ≤ n → 2 ≤ size → v.post ≡ two (size - 1) → m ≡ 1 + length (flight_at r) + length (flight_at l) → MayDraw hunt_rule k id v act m
   may_take k id v m low many q long = may_get k id v G F act root.entry last.entry m (ap (λ (p : P). p.own.guards) q) refl long (let is = ap (λ (p : P). p.number) q in omega arith)
-      (ap (λ (p : P). p.owed) q) (ap (λ (p : P). p.own.climbing) q) (subst (λ (p : P). Contains p.locks 24) (sym q) (2, omega arith, refl))
+      (ap (λ (p : P). p.owed) q) (ap (λ (p : P). p.own.climbing) q) (subst (λ (p : P). Contains p.locks heap_lock) (sym q) (2, omega arith, refl))
       (let is = ap (λ (p : P). p.own.size_counted) q in omega arith) (sym (ap (λ (p : P). p.own.size_counted) q)) used_root.has used_last.has may
 
-  pub got_batch : (p : P) → p ≡ two (size - 1) → batch_of p.own act ≡ record { before = flight_at r; reply = replies.Got root.entry; after = flight_at l }
+  pub got_batch : (p : P) → p ≡ two (size - 1) → hunt_batch p.own act ≡ record { before = flight_at r; reply = replies.Got root.entry; after = flight_at l }
   got_batch p q = gets_batch act root.entry G (F ∷ []) p.own (ap (λ (z : P). z.own.guards) q) r_entry may
       ∙ ap (λ (e : Entry). record { before = flight_at r; reply = replies.Got e; after = flight_at l }) r_entry
 
   abbrev pub drawn : List (ℕ × ℕ) → ℕ → P
   drawn owed y = removing n owed (size - 1) (size - 1) (guard 1 (heap_number root) (Hole last.entry) ∷ guard size y Empty ∷ [])
 
-  pub to_drawn : (first : ℕ) (p : P) → p ≡ two (size - 1) → placed_post p (batch_of p.own act) (after_draw p.own act) first ≡ drawn (letters first r l) (heap_number last)
-  to_drawn first p q = ap (λ (z : P). placed_post z (batch_of z.own act) (after_draw z.own act) first) q
+  pub to_drawn : (first : ℕ) (p : P) → p ≡ two (size - 1) → placed_post p (hunt_batch p.own act) (after_draw p.own act) first ≡ drawn (letters first r l) (heap_number last)
+  to_drawn first p q = ap (λ (z : P). placed_post z (hunt_batch z.own act) (after_draw z.own act) first) q
       ∙ ((λ j. placed_post (two (size - 1)) (gets_batch act root.entry G (F ∷ []) (two (size - 1)).own refl r_entry may j) (gets_part act root.entry G (F ∷ []) (two (size - 1)).own refl r_entry may j) first)
       ∙ ap (λ (e : Entry). removing n (letters first r l) (size - 1) (size - 1) (guard 1 (heap_number root) (Hole e) ∷ guard size (heap_number last) Empty ∷ [])) l_entry)
 
@@ -325,13 +327,13 @@ module _ (n size x : ℕ) (hand : Entry) (many : 2 ≤ size) where
   root_lock : eqb (lock_of 1) (lock_of size) ≡ false
   root_lock = ne_eqb (lock_of 1) (lock_of size) (λ e. omega arith)
 
-  over_lock : eqb 24 (lock_of size) ≡ false
-  over_lock = ne_eqb 24 (lock_of size) (λ e. omega arith)
+  over_lock : eqb heap_lock (lock_of size) ≡ false
+  over_lock = ne_eqb heap_lock (lock_of size) (λ e. omega arith)
 
-  locks_left : less (lock_of size) (lock_of size ∷ lock_of 1 ∷ 24 ∷ []) ≡ lock_of 1 ∷ 24 ∷ []
-  locks_left = ap (λ (b : Bool). cond {A = List ℕ} b (less (lock_of size) (lock_of 1 ∷ 24 ∷ [])) (lock_of size ∷ less (lock_of size) (lock_of 1 ∷ 24 ∷ []))) own_lock
-      ∙ (ap (λ (b : Bool). cond {A = List ℕ} b (less (lock_of size) (24 ∷ [])) (lock_of 1 ∷ less (lock_of size) (24 ∷ []))) root_lock
-      ∙ ap (λ (b : Bool). lock_of 1 ∷ cond {A = List ℕ} b [] (24 ∷ [])) over_lock)
+  locks_left : less (lock_of size) (lock_of size ∷ lock_of 1 ∷ heap_lock ∷ []) ≡ lock_of 1 ∷ heap_lock ∷ []
+  locks_left = ap (λ (b : Bool). cond {A = List ℕ} b (less (lock_of size) (lock_of 1 ∷ heap_lock ∷ [])) (lock_of size ∷ less (lock_of size) (lock_of 1 ∷ heap_lock ∷ []))) own_lock
+      ∙ (ap (λ (b : Bool). cond {A = List ℕ} b (less (lock_of size) (heap_lock ∷ [])) (lock_of 1 ∷ less (lock_of size) (heap_lock ∷ []))) root_lock
+      ∙ ap (λ (b : Bool). lock_of 1 ∷ cond {A = List ℕ} b [] (heap_lock ∷ [])) over_lock)
 
   guards_left : without_guard (lock_of size) (guard 1 x (Hole hand) ∷ guard size 0 Empty ∷ []) ≡ guard 1 x (Hole hand) ∷ []
   guards_left = ap (λ (b : Bool). cond {A = List Guard} b (without_guard (lock_of size) (guard size 0 Empty ∷ [])) (guard 1 x (Hole hand) ∷ without_guard (lock_of size) (guard size 0 Empty ∷ []))) root_lock
@@ -352,8 +354,8 @@ module _ (n size x : ℕ) (hand : Entry) (many : 2 ≤ size) where
     allowed = λ z. ap (λ (p : P). p.owed) q;
   }
 
-  pub left_held : (v : V) → v.post ≡ left → Contains v.post.locks 24
-  left_held v q = subst (λ (p : P). Contains p.locks 24) (sym q) (1, omega arith, refl)
+  pub left_held : (v : V) → v.post ≡ left → Contains v.post.locks heap_lock
+  left_held v q = subst (λ (p : P). Contains p.locks heap_lock) (sym q) (1, omega arith, refl)
 
   pub to_hole : (v w : V) → v.post ≡ left → ComesTo v w (without_heap v.post) → w.post ≡ at_hole n 1 x hand
   to_hole v w q t = t.post ∙ ap without_heap q

@@ -27,7 +27,7 @@ use Rattle.pq_hunt.specs.Order.{HasWord}
 use Rattle.pq_hunt.specs.Flights.{Flight}
 use Rattle.pq_hunt.specs.Facts.{HeapFacts, StepsTo}
 use Rattle.pq_hunt.specs.Marks.{IsRemoval, MayGet, drawn_marks, last_marks, above_marks}
-use Rattle.pq_hunt.proofs.Events.{event_draw, event_draw_last, event_empty, event_above}
+use Rattle.pq_hunt.proofs.Heap.Events.{event_draw, event_draw_last, event_empty, event_above}
 use Rattle.pq_hunt.specs.Guards.{Guard}
 use Rattle.pq_hunt.specs.declared.views.HuntPart.{HuntPart}
 use Rattle.pq_hunt.specs.Layout.{heap_lock}
@@ -35,14 +35,14 @@ use Rattle.pq_nodes.specs.Views.{guard}
 use Rattle.pq_hunt.specs.Views.{with_guards}
 use Rattle.pq_hunt.specs.Batches.{entry_at, flight_at, removal, settled, emptied, after_removal}
 use Rattle.pq_nodes.specs.Facts.{locks_in, words_in}
-use Rattle.pq_nodes.specs.Views.{IsApart}
+use Rattle.pq_nodes.specs.Views.{HaveNodesApart}
 use Rattle.pq_hunt.specs.Ties.{HuntTied}
 use Rattle.pq_hunt.specs.Rules.{hunt_rule}
 use Rattle.pq_hunt.specs.LawsHold.Changes.{ps, pat}
 use Rattle.pq_nodes.specs.Views.{nodes_of}
 use Rattle.pq_nodes.proofs.GuardLists.{apart_same, first_cases, second_cases}
-use Rattle.pq_hunt.proofs.Draws.{marks_flight, helps_flight, has_entry, in_flight, own_apart, waits_for, draws_tie, own_idle, one_waits, two_wait, fewer_waits, unchanged_guards, counts, nothing_set}
-use Rattle.pq_hunt.proofs.Draws as draws
+use Rattle.pq_hunt.proofs.Keeping.Draws.{marks_flight, helps_flight, has_entry, in_flight, own_apart, waits_for, draws_tie, own_idle, one_waits, two_wait, fewer_waits, unchanged_guards, counts, nothing_set}
+use Rattle.pq_hunt.proofs.Keeping.Draws as draws
 use Rattle.pq_nodes.specs.Parts.{kind_of}
 use Rattle.pq_hunt.specs.NodeParts.{hunt_nodes}
 
@@ -143,7 +143,7 @@ module _ (k : Limits) (s : Table HuntPart) (h : Holds hunt_rule k s) (id : ℕ) 
         let own : HuntPart = after_removal v.post.own in
         let g' : Guard = guard g.node g.stored (Hole l) in let f' : Guard = guard f.node f.stored Empty in
         let is : own.guards ≡ g' ∷ f' ∷ [] = ap emptied guards ∙ ap (λ (z : Entry). guard g.node g.stored (Hole z) ∷ f' ∷ []) (has_entry f.counted l last_word) in
-        let apart : IsApart (g ∷ f ∷ []) = subst IsApart guards (t.tree.names id v.post here).apart in
+        let apart : HaveNodesApart (g ∷ f ∷ []) = subst HaveNodesApart guards (t.tree.names id v.post here).apart in
         let helps_are : (m : ℕ) → helps m (flight_at g.counted) + helps m (flight_at f.counted) ≡ less m =
         (λ m. λ j. (helps_flight m g.counted ∙ ap (busy_of m) (sym at_root)) j + (helps_flight m f.counted ∙ ap (busy_of m) (sym at_last)) j) in
         let few_root = few_flights g.counted in let few_last = few_flights f.counted in
@@ -202,7 +202,7 @@ module _ (k : Limits) (s : Table HuntPart) (h : Holds hunt_rule k s) (id : ℕ) 
         → IsGuarded (kind_of hunt_nodes) (locks_in s.words) (words_in s.words) (set qs id (drawn_post b own)) (set t.nodes 1 counted)
     only_written b own counted is =
         let g' : Guard = guard g.node g.stored counted in
-        let apart : IsApart (g ∷ []) = subst IsApart guards (t.tree.names id v.post here).apart in
+        let apart : HaveNodesApart (g ∷ []) = subst HaveNodesApart guards (t.tree.names id v.post here).apart in
         subst (λ (z : ℕ). IsGuarded (kind_of hunt_nodes) (locks_in s.words) (words_in s.words) (set qs id (drawn_post b own)) (set t.nodes z counted)) root
         (guard_written (kind_of hunt_nodes) (locks_in s.words) (words_in s.words) (words_in s.words) qs t.nodes id v.post (drawn_post b own) g g' t.tree.guarded here has_only refl (nothing_set k s h id v at g has_only)
         (λ z at_z. ⊎_elim (λ q. inl q) (λ r. inr (r.0, subst (λ (y : List Guard). Contains y z) (sym guards) r.1)) (first_cases g g' [] refl apart z (subst (λ (y : List Guard). Contains y z) is at_z))))

@@ -20,14 +20,14 @@ use Rattle.pq_hunt.specs.Nodes.{node}
 use Rattle.pq_hunt.specs.Order.{HasWord, MayStandOver}
 use Rattle.pq_hunt.specs.Flights.{Flight, flight, looking_at, IsOther}
 use Rattle.pq_hunt.specs.Facts.{HeapFacts}
-use Rattle.pq_hunt.proofs.Events.{event_leaf, event_climb, event_sift, event_fill}
+use Rattle.pq_hunt.proofs.Heap.Events.{event_leaf, event_climb, event_sift, event_fill}
 use Rattle.pq_hunt.specs.Guards.{Guard}
 use Rattle.pq_hunt.specs.declared.views.HuntPart.{HuntPart}
 use Rattle.pq_nodes.specs.Layout.{word_of}
-use Rattle.pq_hunt.specs.Layout.{heap_lock}
+use Rattle.pq_hunt.specs.Layout.{size_word, heap_lock}
 use Rattle.pq_nodes.specs.Views.{guard, exchanged, exchanged_third, refilled}
 use Rattle.pq_hunt.specs.Views.{with_guards}
-use Rattle.pq_nodes.specs.Views.{IsApart}
+use Rattle.pq_nodes.specs.Views.{HaveNodesApart}
 use Rattle.pq_hunt.specs.Ties.{HuntTied}
 use Rattle.pq_hunt.specs.Rules.{hunt_rule}
 use Rattle.pq_hunt.specs.LawsHold.Frames.{number_low}
@@ -99,8 +99,8 @@ module _ (k : Limits) (s : Table HuntPart) (h : Holds hunt_rule k s) (id : ℕ) 
   size_stays : (p' : Post HuntPart) (i x : ℕ) → p'.locks ≡ v.post.locks → p'.own.size_stored ≡ v.post.own.size_stored → p'.own.size_counted ≡ v.post.own.size_counted
       → Sizes k s h id v at p' (set s.words (word_of i) x) t.size
   size_stays p' i x locks stored counted =
-      let lock : get_or (set s.words (word_of i) x) 24 0 ≡ get_or s.words 24 0 = get_or-set_other s.words (word_of i) 24 x 0 (omega arith) in
-      let there : get_or (set s.words (word_of i) x) 25 0 ≡ get_or s.words 25 0 = get_or-set_other s.words (word_of i) 25 x 0 (omega arith) in record {
+      let lock : get_or (set s.words (word_of i) x) heap_lock 0 ≡ get_or s.words heap_lock 0 = get_or-set_other s.words (word_of i) heap_lock x 0 (omega arith) in
+      let there : get_or (set s.words (word_of i) x) size_word 0 ≡ get_or s.words size_word 0 = get_or-set_other s.words (word_of i) size_word x 0 (omega arith) in record {
         free = λ e. there ∙ t.free (sym lock ∙ e);
         mine = λ has. let old = t.held id v.post here (subst (λ (z : List ℕ). Contains z heap_lock) locks has) in (counted ∙ old.0, there ∙ (old.1 ∙ sym stored));
         theirs = inl (refl, there);
@@ -200,7 +200,7 @@ module _ (k : Limits) (s : Table HuntPart) (h : Holds hunt_rule k s) (id : ℕ) 
       let g' : Guard = guard g.node f.stored f.counted in let f' : Guard = guard f.node f.stored g.counted in
       let has_first : Contains v.post.own.guards g = subst (λ (z : List Guard). Contains z g) (sym guards) (in_first g (b ∷ f ∷ gs)) in
       let has_third : Contains v.post.own.guards f = subst (λ (z : List Guard). Contains z f) (sym guards) (in_later g f (b ∷ f ∷ gs) (in_later b f (f ∷ gs) (in_first f gs))) in
-      let apart_here : IsApart (g ∷ b ∷ f ∷ gs) = subst IsApart guards (t.tree.names id v.post here).apart in
+      let apart_here : HaveNodesApart (g ∷ b ∷ f ∷ gs) = subst HaveNodesApart guards (t.tree.names id v.post here).apart in
       let at_g : node t.nodes g.node ≡ Hole x = guard_counts hunt_nodes s.words qs t.nodes t.tree id v.post here g has_first ∙ hole in
       let at_f : node t.nodes f.node ≡ f.counted = guard_counts hunt_nodes s.words qs t.nodes t.tree id v.post here f has_third in
       let is : p'.own.guards ≡ g' ∷ b ∷ f' ∷ gs = ap exchanged_third guards in
@@ -236,8 +236,8 @@ module _ (k : Limits) (s : Table HuntPart) (h : Holds hunt_rule k s) (id : ℕ) 
       let place : t.size + 1 ≡ i = omega arith in
       let is : p'.own.guards ≡ guard i x (Busy n e) ∷ gs = ap (refilled x (Busy n e)) guards in
       let same : (m : ℕ) → m ≤ 16 → letter_count m ws (set qs id p') ≡ letter_count m s.words qs = letters_kept k s h id v at p' (word_of i) x (omega arith) refl in
-      let lock : get_or ws 24 0 ≡ get_or s.words 24 0 = get_or-set_other s.words (word_of i) 24 x 0 (omega arith) in
-      let there : get_or ws 25 0 ≡ get_or s.words 25 0 = get_or-set_other s.words (word_of i) 25 x 0 (omega arith) in
+      let lock : get_or ws heap_lock 0 ≡ get_or s.words heap_lock 0 = get_or-set_other s.words (word_of i) heap_lock x 0 (omega arith) in
+      let there : get_or ws size_word 0 ≡ get_or s.words size_word 0 = get_or-set_other s.words (word_of i) size_word x 0 (omega arith) in
       let mine = (h.each id v at).held heap_lock locked in
       let is_mine = mine.1 in
       node_change p' i x of' (set t.nodes i (Busy n e)) (left h.history) refl (ap nodes_of is ∙ sym (ap nodes_of guards))

@@ -12,7 +12,7 @@ use Rattle.pq_words.proofs.HeapNumbers.{one_heap_word}
 use Rattle.pq_hunt.specs.declared.nodes.Node.{Node}
 use Rattle.pq_hunt.specs.declared.nodes.Node.TheVariants.{Empty}
 use Rattle.pq_hunt.specs.Order.{HasWord, MayStandOver}
-use Rattle.pq_hunt.specs.Passes.{IsRank}
+use Rattle.pq_hunt.specs.Sifting.{IsRank}
 use Rattle.pq_hunt.specs.Words.{node_with, node_of, Means}
 use Rattle.pq_hunt.specs.Laws.{WordsMeanOneNode}
 

@@ -12,7 +12,7 @@ use Rattle.pq_model.specs.History.{IsSeat}
 use Rattle.pq_hunt.specs.declared.nodes.Node.{Node}
 use Rattle.pq_hunt.specs.declared.nodes.Node.TheVariants.{Empty, Available, Busy, Hole}
 use Rattle.pq_hunt.specs.Nodes.{node, used, busy_of, IsShape}
-use Rattle.pq_hunt.proofs.Counting.{busy, weigh, Holds}
+use Rattle.pq_hunt.proofs.Heap.Counting.{busy, weigh, Holds}
 use Rattle.pq_hunt.specs.Flights.{Flight, IsFlown}
 use Rattle.pq_hunt.specs.LawsHold.Owners.{in_use}
 

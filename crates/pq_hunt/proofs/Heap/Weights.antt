@@ -18,10 +18,10 @@ use Rattle.pq_hunt.specs.declared.nodes.Node.{Node}
 use Rattle.pq_hunt.specs.declared.nodes.Node.TheVariants.{Empty, Available, Busy, Hole}
 use Rattle.pq_hunt.specs.Nodes.{node, used}
 use Rattle.pq_hunt.specs.Order.{HasWord}
-use Rattle.pq_hunt.proofs.Counting.{bound, stand, busy, weigh, bounds, stands, IsHeap, Holds}
-use Rattle.pq_hunt.proofs.Writes.{node_same, two_sums}
+use Rattle.pq_hunt.proofs.Heap.Counting.{bound, stand, busy, weigh, bounds, stands, IsHeap, Holds}
+use Rattle.pq_hunt.proofs.Heap.Writes.{node_same, two_sums}
 use Rattle.pq_hunt.specs.LawsHold.Owners.{in_use}
-use Rattle.pq_hunt.proofs.Heaps.{settle}
+use Rattle.pq_hunt.proofs.Heap.Heaps.{settle}
 
 -- 1 for each number below n
 abbrev below : ℕ → ℕ → ℕ

@@ -22,22 +22,22 @@ use Rattle.pq_hunt.specs.declared.nodes.Node.TheVariants.{Available, Busy}
 use Rattle.pq_hunt.specs.Nodes.{node, busy_of}
 use Rattle.pq_hunt.specs.Flights.{Flight}
 use Rattle.pq_hunt.specs.Facts.{HeapFacts}
-use Rattle.pq_hunt.proofs.Events.{event_settle, event_full}
+use Rattle.pq_hunt.proofs.Heap.Events.{event_settle, event_full}
 use Rattle.pq_hunt.specs.Guards.{Guard}
 use Rattle.pq_hunt.specs.declared.views.HuntPart.{HuntPart}
 use Rattle.pq_hunt.specs.Layout.{heap_lock}
 use Rattle.pq_nodes.specs.Views.{guard}
 use Rattle.pq_hunt.specs.Batches.{entry_at, insertion, settled, after_insert}
 use Rattle.pq_nodes.specs.Facts.{locks_in, words_in}
-use Rattle.pq_nodes.specs.Views.{IsApart}
+use Rattle.pq_nodes.specs.Views.{HaveNodesApart}
 use Rattle.pq_hunt.specs.Ties.{HuntTied}
 use Rattle.pq_hunt.specs.Rules.{hunt_rule}
 use Rattle.pq_hunt.specs.LawsHold.Frames.{number_low}
 use Rattle.pq_hunt.specs.LawsHold.Changes.{ps, pat}
 use Rattle.pq_nodes.specs.Views.{nodes_of}
 use Rattle.pq_nodes.proofs.GuardLists.{first_cases, second_cases}
-use Rattle.pq_hunt.proofs.Draws.{own_apart, draws_tie, own_idle, one_waits, fewer_waits, unchanged_guards, counts, nothing_set}
-use Rattle.pq_hunt.proofs.Draws as draws
+use Rattle.pq_hunt.proofs.Keeping.Draws.{own_apart, draws_tie, own_idle, one_waits, fewer_waits, unchanged_guards, counts, nothing_set}
+use Rattle.pq_hunt.proofs.Keeping.Draws as draws
 use Rattle.pq_nodes.specs.Parts.{kind_of}
 use Rattle.pq_hunt.specs.NodeParts.{hunt_nodes}
 
@@ -147,7 +147,7 @@ module _ (k : Limits) (s : Table HuntPart) (h : Holds hunt_rule k s) (id : ℕ) 
       let f' : Guard = guard f.node f.stored (Available e) in
       let entry : entry_at f.counted ≡ e = ap entry_at busy in
       let is : own.guards ≡ f' ∷ [] = ap settled guards ∙ ap (λ (z : Entry). guard f.node f.stored (Available z) ∷ []) entry in
-      let apart : IsApart (f ∷ []) = subst IsApart guards (t.tree.names id v.post here).apart in
+      let apart : HaveNodesApart (f ∷ []) = subst HaveNodesApart guards (t.tree.names id v.post here).apart in
       places_done f e own has busy new positive owed climbing (inl root)
       (guard_written (kind_of hunt_nodes) (locks_in s.words) (words_in s.words) (words_in s.words) qs t.nodes id v.post (drawn_post (insertion 1) own) f f' t.tree.guarded here has refl (nothing_set k s h id v at f has)
       (λ z at_z. ⊎_elim (λ q. inl q) (λ r. inr (r.0, subst (λ (l : List Guard). Contains l z) (sym guards) r.1)) (first_cases f f' [] refl apart z (subst (λ (l : List Guard). Contains l z) is at_z))))
@@ -163,7 +163,7 @@ module _ (k : Limits) (s : Table HuntPart) (h : Holds hunt_rule k s) (id : ℕ) 
       let f' : Guard = guard f.node f.stored (Available e) in
       let entry : entry_at f.counted ≡ e = ap entry_at busy in
       let is : own.guards ≡ g ∷ f' ∷ [] = ap settled guards ∙ ap (λ (z : Entry). g ∷ guard f.node f.stored (Available z) ∷ []) entry in
-      let apart : IsApart (g ∷ f ∷ []) = subst IsApart guards (t.tree.names id v.post here).apart in
+      let apart : HaveNodesApart (g ∷ f ∷ []) = subst HaveNodesApart guards (t.tree.names id v.post here).apart in
       places_done f e own has busy new positive owed climbing (inr (x, ap (node t.nodes) child ∙ (counts k s h id v at g has_g ∙ above), under))
       (guard_written (kind_of hunt_nodes) (locks_in s.words) (words_in s.words) (words_in s.words) qs t.nodes id v.post (drawn_post (insertion 1) own) f f' t.tree.guarded here has refl (nothing_set k s h id v at f has)
       (λ z at_z. ⊎_elim (λ q. inl q) (λ r. inr (r.0, subst (λ (l : List Guard). Contains l z) (sym guards) r.1)) (second_cases g f f' [] refl apart z (subst (λ (l : List Guard). Contains l z) is at_z))))

@@ -22,10 +22,11 @@ use Rattle.pq_nodes.specs.Parts.{guarding}
 use Rattle.pq_hunt.specs.Steps.{busy_number, missing}
 use Rattle.pq_nodes.specs.Passes.{ComesTo}
 use Rattle.pq_nodes.specs.Parts.{with_node, without_node, IsFreeable, HasGuard}
-use Rattle.pq_hunt.specs.Passes.{CanFind, in_flight, guarding_flight, post_with}
-use Rattle.pq_hunt.proofs.Meanings.{one_meaning}
-use Rattle.pq_hunt.proofs.Leafing.{busy_means}
-use Rattle.pq_hunt.proofs.MayDraw.{may_settle_root}
+use Rattle.pq_hunt.specs.Climbing.{CanFind}
+use Rattle.pq_hunt.specs.HeldPosts.{in_flight, guarding_flight, post_with}
+use Rattle.pq_hunt.proofs.Heap.Meanings.{one_meaning}
+use Rattle.pq_hunt.proofs.Calls.Leafing.{busy_means}
+use Rattle.pq_hunt.proofs.Allowing.MayDraw.{may_settle_root}
 use Rattle.pq_hunt.specs.NodeParts.{hunt_nodes}
 
 abbrev P : Type 0

@@ -25,8 +25,8 @@ use Rattle.pq_hunt.specs.Nodes.{node}
 use Rattle.pq_hunt.specs.Order.{HasWord, MayStandOver}
 use Rattle.pq_hunt.specs.Words.{Means, node_with, node_of}
 use Rattle.pq_hunt.specs.Batches.{entry_at}
-use Rattle.pq_hunt.proofs.Meanings.{one_meaning}
-use Rattle.pq_hunt.proofs.Events.{may_empty}
+use Rattle.pq_hunt.proofs.Heap.Meanings.{one_meaning}
+use Rattle.pq_hunt.proofs.Heap.Events.{may_empty}
 use Rattle.pq_words.specs.declared.heap_words.Tag.{Tag}
 use Rattle.pq_words.specs.declared.heap_words.Tag.TheVariants as tags
 use Rattle.pq_words.specs.declared.heap_words.HeapWord.{HeapWord}
@@ -40,12 +40,12 @@ use Rattle.pq_nodes.specs.Views.{exchanged, exchanged_third, refilled}
 use Rattle.pq_hunt.specs.Ties.{HuntTied}
 use Rattle.pq_hunt.specs.Rules.{hunt_rule}
 use Rattle.pq_hunt.specs.Steps as steps
-use Rattle.pq_hunt.specs.Passes.{MayStand}
+use Rattle.pq_hunt.specs.Sifting.{MayStand}
 use Rattle.pq_hunt.specs.LawsHold.{hunt_laws}
 use Rattle.pq_hunt.specs.LawsHold.Locks.{word_is_no_lock, size_is_no_lock}
 use Rattle.pq_hunt.specs.LawsHold.Changes.{pat}
-use Rattle.pq_hunt.proofs.Stores as stores
-use Rattle.pq_hunt.proofs.Looks as looks
+use Rattle.pq_hunt.proofs.Keeping.Stores as stores
+use Rattle.pq_hunt.proofs.Keeping.Looks as looks
 use Rattle.pq_hunt.specs.NodeParts.{hunt_nodes}
 use Rattle.pq_nodes.specs.Parts.{guarding}
 use Rattle.pq_nodes.specs.Raising.{MayRaise}

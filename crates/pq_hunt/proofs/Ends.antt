@@ -1,0 +1,3 @@
+-- The opening of a heap, and its end.
+pub mod Opening
+pub mod Ending
