@@ -2,7 +2,8 @@
 ghost use Rattle.std.specs.Prelude.{◌≡◌, ◌≢◌, ◌<◌, ◌≤◌, ◌+◌, ◌-◌, Contains, Some, length, []};
 ghost use Rattle.pq_api.specs.Limits.{call_limit};
 ghost use Rattle.pq_words.specs.declared.entries.Entry.{Entry};
-ghost use Rattle.pq_seats.specs.Passes.{limits_of, view_of, known, Belongs, IsSamePass};
+ghost use Rattle.pq_seats.specs.Passes.{limits_of, view_of, known, Belongs};
+ghost use Rattle.pq_nodes.specs.Passes.{Stays};
 ghost use Rattle.pq_seats.specs.Views.{with_post};
 ghost use Rattle.pq_seats.specs.Laws.{history_limit};
 ghost use Rattle.pq_hunt.specs.declared.nodes.Node.TheVariants.{Busy};
@@ -32,8 +33,7 @@ pub(crate) fn look_at_size(table: &HuntTable, pass: &mut HuntPass) -> u64
     requires table { IsHeapTable table.now }
     requires own { Belongs table.now pass.old }
     requires held { Contains (view_of pass.old).post.locks layout.heap_lock }
-    ensures own { Belongs table.now pass.new }
-    ensures same { IsSamePass pass.old pass.new }
+    ensures stays { Stays table.now pass.old pass.new }
     ensures view { view_of pass.new ≡ view_of pass.old }
     ensures size { result ≡ (view_of pass.old).post.own.size_stored }
 {
@@ -48,8 +48,7 @@ pub(crate) fn store_size(table: &HuntTable, pass: &mut HuntPass, size: u32)
     requires table { IsHeapTable table.now }
     requires own { Belongs table.now pass.old }
     requires held { Contains (view_of pass.old).post.locks layout.heap_lock }
-    ensures own { Belongs table.now pass.new }
-    ensures same { IsSamePass pass.old pass.new }
+    ensures stays { Stays table.now pass.old pass.new }
     ensures view { view_of pass.new ≡ with_post (view_of pass.old) (sizing (view_of pass.old).post size) }
 {
     table
@@ -66,8 +65,7 @@ pub(crate) fn make_busy(table: &HuntTable, pass: &mut HuntPass, node: u32, word:
     requires leaf { CanLeaf (view_of pass.old) node }
     requires few { length (known pass.old).calls < call_limit - 1 }
     requires word { (e : Entry) × Means (Busy pass.old.number e) word }
-    ensures own { Belongs table.now pass.new }
-    ensures same { IsSamePass pass.old pass.new }
+    ensures stays { Stays table.now pass.old pass.new }
     ensures view { (e : Entry) → Means (Busy pass.old.number e) word → view_of pass.new ≡
         with_post (view_of pass.old) (leafed (view_of pass.old).post word e) }
 {
@@ -83,8 +81,7 @@ pub(crate) fn climb_to(table: &HuntTable, pass: &mut HuntPass, parent: u32, word
     requires own { Belongs table.now pass.old }
     requires node { (1 ≤ parent) × (parent ≤ (limits_of table.now).capacity) }
     requires climb { CanClimb (view_of pass.old) parent word }
-    ensures own { Belongs table.now pass.new }
-    ensures same { IsSamePass pass.old pass.new }
+    ensures stays { Stays table.now pass.old pass.new }
     ensures view { view_of pass.new ≡ with_post (view_of pass.old) (climbed (view_of pass.old).post) }
 {
     table
@@ -99,8 +96,7 @@ pub(crate) fn fill(table: &HuntTable, pass: &mut HuntPass, hole: u32, word: u64)
     requires own { Belongs table.now pass.old }
     requires node { (1 ≤ hole) × (hole ≤ (limits_of table.now).capacity) }
     requires fill { CanFill (limits_of table.now).capacity (view_of pass.old) hole }
-    ensures own { Belongs table.now pass.new }
-    ensures same { IsSamePass pass.old pass.new }
+    ensures stays { Stays table.now pass.old pass.new }
     ensures view { view_of pass.new ≡ with_post (view_of pass.old) (filled (view_of pass.old).post word) }
 {
     table
@@ -116,8 +112,7 @@ pub(crate) fn find(table: &HuntTable, pass: &mut HuntPass, node: u32) -> u64
     requires own { Belongs table.now pass.old }
     requires node { (1 ≤ node) × (node ≤ (limits_of table.now).capacity) }
     requires find { CanFind (view_of pass.old) node }
-    ensures own { Belongs table.now pass.new }
-    ensures same { IsSamePass pass.old pass.new }
+    ensures stays { Stays table.now pass.old pass.new }
     ensures word { (g : Guard) → Contains (view_of pass.old).post.own.guards g → g.node ≡ node → result ≡ g.stored }
     ensures found { (e : Entry) → (view_of pass.old).post.flight ≡ Some e →
         (result ≡ busy_number pass.old.number e → view_of pass.new ≡ view_of pass.old) ×
@@ -136,8 +131,7 @@ pub(crate) fn find_at_root(table: &HuntTable, pass: &mut HuntPass) -> u64
     requires table { IsHeapTable table.now }
     requires own { Belongs table.now pass.old }
     requires find { CanFind (view_of pass.old) 1 × ((view_of pass.old).post.owed ≡ []) }
-    ensures own { Belongs table.now pass.new }
-    ensures same { IsSamePass pass.old pass.new }
+    ensures stays { Stays table.now pass.old pass.new }
     ensures word { (g : Guard) → Contains (view_of pass.old).post.own.guards g → g.node ≡ 1 → result ≡ g.stored }
     ensures found { (e : Entry) → (view_of pass.old).post.flight ≡ Some e →
         (result ≡ busy_number pass.old.number e → view_of pass.new ≡ view_of pass.old) ×

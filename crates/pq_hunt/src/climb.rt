@@ -7,14 +7,14 @@ ghost use Rattle.pq_model.specs.declared.marks.Reply.TheVariants as replies;
 ghost use Rattle.pq_api.specs.Limits.{call_limit};
 ghost use Rattle.pq_api.specs.Answers.{MakesCall};
 ghost use Rattle.pq_seats.specs.Views.{empty_post};
-ghost use Rattle.pq_seats.specs.Passes.{limits_of, view_of, known, Belongs, IsSamePass, IsInformed};
+ghost use Rattle.pq_seats.specs.Passes.{limits_of, view_of, known, Belongs, IsInformed};
 ghost use Rattle.pq_hunt.specs.declared.nodes.Node.{Node};
 ghost use Rattle.pq_hunt.specs.declared.nodes.Node.TheVariants.{Busy};
 ghost use Rattle.pq_hunt.specs.Words.{Means};
 ghost use Rattle.pq_nodes.specs.Views.{guard};
 ghost use Rattle.pq_hunt.specs.Views.{idle};
 ghost use Rattle.pq_hunt.specs.Steps.{busy_number, missing};
-ghost use Rattle.pq_nodes.specs.Passes.{ComesTo};
+ghost use Rattle.pq_nodes.specs.Passes.{ComesTo, Stays};
 ghost use Rattle.pq_hunt.specs.HeldPosts.{in_flight, guarding_flight};
 ghost use Rattle.pq_hunt.specs.Climbing.{IsPaired, TookPair};
 ghost use Rattle.pq_hunt.specs.Turns.{IsTurned, IsDone};
@@ -43,8 +43,7 @@ fn take_pair<W: Wait>(
     requires nodes { (1 ≤ parent) × (parent ≤ (limits_of table.now).capacity) × (1 ≤ child) ×
         (child ≤ (limits_of table.now).capacity) }
     requires flies { (view_of pass.old).post ≡ in_flight pass.old.number e child }
-    ensures own { Belongs table.now pass.new }
-    ensures same { IsSamePass pass.old pass.new }
+    ensures stays { Stays table.now pass.old pass.new }
     ensures took { TookPair (view_of pass.old) (view_of pass.new) pass.old.number e parent child }
 {
     take_node(table, rt, pass, parent);
@@ -60,8 +59,7 @@ fn settle(table: &HuntTable, pass: &mut HuntPass, parent: u32, child: u32, e: En
     requires pair { (above : _) ×
         (p : IsPaired (view_of pass.old) pass.old.number e parent child above (busy_number pass.old.number e)) ×
         (raw_of p.other ≤ raw_of e) }
-    ensures own { Belongs table.now pass.new }
-    ensures same { IsSamePass pass.old pass.new }
+    ensures stays { Stays table.now pass.old pass.new }
     ensures rests { (view_of pass.new).post ≡ empty_post idle pass.old.number }
     ensures call { MakesCall (known pass.old) result (Insert e) replies.Done (known pass.new) }
     ensures knows { IsInformed table.now pass.new }
@@ -93,8 +91,7 @@ fn rise(
     requires mine { mine ≡ busy_number pass.old.number e }
     requires pair { (p : IsPaired (view_of pass.old) pass.old.number e parent child above mine) ×
         (raw_of e ≤ raw_of p.other) }
-    ensures own { Belongs table.now pass.new }
-    ensures same { IsSamePass pass.old pass.new }
+    ensures stays { Stays table.now pass.old pass.new }
     ensures flies { ComesTo (view_of pass.old) (view_of pass.new) (in_flight pass.old.number e parent) }
 {
     climb_to(table, pass, parent, mine);
@@ -118,8 +115,7 @@ fn climb_once<W: Wait>(
     requires flies { (view_of pass.old).post ≡ in_flight pass.old.number e child }
     requires mine { mine ≡ busy_number pass.old.number e }
     requires few { length (known pass.old).calls < call_limit - 1 }
-    ensures own { Belongs table.now pass.new }
-    ensures same { IsSamePass pass.old pass.new }
+    ensures stays { Stays table.now pass.old pass.new }
     ensures turned { IsTurned table.now pass.old pass.new e result }
 {
     let parent = child / 2;
@@ -154,8 +150,7 @@ fn end_at_root<W: Wait>(table: &HuntTable, rt: &W, pass: &mut HuntPass, e: Entry
     requires flies { (view_of pass.old).post ≡ in_flight pass.old.number e 1 }
     requires mine { mine ≡ busy_number pass.old.number e }
     requires few { length (known pass.old).calls < call_limit - 1 }
-    ensures own { Belongs table.now pass.new }
-    ensures same { IsSamePass pass.old pass.new }
+    ensures stays { Stays table.now pass.old pass.new }
     ensures done { IsDone table.now pass.old pass.new e result }
 {
     take_node(table, rt, pass, 1);
@@ -174,8 +169,7 @@ fn settle_root(table: &HuntTable, pass: &mut HuntPass, e: Entry) -> u32
     requires root { (view_of pass.old).post ≡
         guarding_flight pass.old.number e 1 (guard 1 (busy_number pass.old.number e) (Busy pass.old.number e) ∷ []) }
     requires few { length (known pass.old).calls < call_limit - 1 }
-    ensures own { Belongs table.now pass.new }
-    ensures same { IsSamePass pass.old pass.new }
+    ensures stays { Stays table.now pass.old pass.new }
     ensures done { IsDone table.now pass.old pass.new e result }
 {
     let word = HeapWord {
@@ -194,8 +188,7 @@ fn take_over(table: &HuntTable, pass: &mut HuntPass, e: Entry) -> u32
     requires table { IsHeapTable table.now }
     requires own { Belongs table.now pass.old }
     requires missing { (view_of pass.old).post ≡ missing (in_flight pass.old.number e 1) }
-    ensures own { Belongs table.now pass.new }
-    ensures same { IsSamePass pass.old pass.new }
+    ensures stays { Stays table.now pass.old pass.new }
     ensures done { IsDone table.now pass.old pass.new e result }
 {
     match table.take_letter(pass) {
@@ -220,8 +213,7 @@ pub(crate) fn climb<W: Wait>(
     requires flies { (view_of pass.old).post ≡ in_flight pass.old.number e leaf }
     requires mine { mine ≡ busy_number pass.old.number e }
     requires few { length (known pass.old).calls < call_limit - 1 }
-    ensures own { Belongs table.now pass.new }
-    ensures same { IsSamePass pass.old pass.new }
+    ensures stays { Stays table.now pass.old pass.new }
     ensures done { IsDone table.now pass.old pass.new e result }
 {
     let backoff = Backoff::new();

@@ -6,10 +6,10 @@ ghost use Rattle.pq_model.specs.declared.marks.Reply.TheVariants as replies;
 ghost use Rattle.pq_api.specs.Limits.{call_limit};
 ghost use Rattle.pq_api.specs.Answers.{MakesCall, IsInserted};
 ghost use Rattle.pq_seats.specs.Views.{empty_post};
-ghost use Rattle.pq_seats.specs.Passes.{limits_of, view_of, known, Belongs, IsSamePass, IsInformed};
+ghost use Rattle.pq_seats.specs.Passes.{limits_of, view_of, known, Belongs, IsInformed};
 ghost use Rattle.pq_hunt.specs.Views.{idle};
 ghost use Rattle.pq_hunt.specs.Steps.{busy_number};
-ghost use Rattle.pq_nodes.specs.Passes.{ComesTo};
+ghost use Rattle.pq_nodes.specs.Passes.{ComesTo, Stays};
 ghost use Rattle.pq_hunt.specs.HeldPosts.{at_heap, in_flight};
 ghost use Rattle.pq_hunt.specs.Tables.{IsHeapTable};
 
@@ -28,8 +28,7 @@ pub(crate) fn begin<W: Wait>(table: &HuntTable, rt: &W, pass: &mut HuntPass) -> 
     requires table { IsHeapTable table.now }
     requires own { Belongs table.now pass.old }
     requires rests { (view_of pass.old).post ≡ empty_post idle pass.old.number }
-    ensures own { Belongs table.now pass.new }
-    ensures same { IsSamePass pass.old pass.new }
+    ensures stays { Stays table.now pass.old pass.new }
     ensures size { result ≤ (limits_of table.now).capacity }
     ensures begun { ComesTo (view_of pass.old) (view_of pass.new) (at_heap pass.old.number result) }
 {
@@ -43,8 +42,7 @@ fn refuse(table: &HuntTable, pass: &mut HuntPass, e: Entry) -> u32
     requires own { Belongs table.now pass.old }
     requires begun { (view_of pass.old).post ≡ at_heap pass.old.number (limits_of table.now).capacity }
     requires few { length (known pass.old).calls < call_limit - 1 }
-    ensures own { Belongs table.now pass.new }
-    ensures same { IsSamePass pass.old pass.new }
+    ensures stays { Stays table.now pass.old pass.new }
     ensures rests { (view_of pass.new).post ≡ empty_post idle pass.old.number }
     ensures call { MakesCall (known pass.old) result (Insert e) replies.Full (known pass.new) }
     ensures knows { IsInformed table.now pass.new }
@@ -69,8 +67,7 @@ fn take_leaf<W: Wait>(
     requires begun { (view_of pass.old).post ≡ at_heap pass.old.number (leaf - 1) }
     requires few { length (known pass.old).calls < call_limit - 1 }
     requires word { word ≡ busy_number pass.old.number e }
-    ensures own { Belongs table.now pass.new }
-    ensures same { IsSamePass pass.old pass.new }
+    ensures stays { Stays table.now pass.old pass.new }
     ensures flies { ComesTo (view_of pass.old) (view_of pass.new) (in_flight pass.old.number e leaf) }
 {
     take_node(table, rt, pass, leaf);
@@ -95,8 +92,7 @@ pub(crate) fn insert<W: Wait, F: FnMut()>(
     requires own { Belongs table.now pass.old }
     requires rests { (view_of pass.old).post ≡ empty_post idle pass.old.number }
     requires few { length (known pass.old).calls < call_limit - 1 }
-    ensures own { Belongs table.now pass.new }
-    ensures same { IsSamePass pass.old pass.new }
+    ensures stays { Stays table.now pass.old pass.new }
     ensures rests { (view_of pass.new).post ≡ empty_post idle pass.old.number }
     ensures call { IsInserted (known pass.old) e result (known pass.new) }
     ensures knows { IsInformed table.now pass.new }

@@ -1,7 +1,7 @@
 //! Taking and freeing the lock over the size.
 ghost use Rattle.std.specs.Prelude.{◌≡◌, ◌<◌, ◌≤◌, Contains};
-ghost use Rattle.pq_seats.specs.Passes.{limits_of, view_of, Belongs, IsSamePass};
-ghost use Rattle.pq_nodes.specs.Passes.{ComesTo};
+ghost use Rattle.pq_seats.specs.Passes.{limits_of, view_of, Belongs};
+ghost use Rattle.pq_nodes.specs.Passes.{ComesTo, Stays};
 ghost use Rattle.pq_hunt.specs.Layout as layout;
 ghost use Rattle.pq_hunt.specs.HeldPosts.{TookHeap, without_heap};
 ghost use Rattle.pq_hunt.specs.Tables.{IsHeapTable};
@@ -14,8 +14,7 @@ use std::sync::Wait;
 pub(crate) fn take_heap<W: Wait>(table: &HuntTable, rt: &W, pass: &mut HuntPass)
     requires table { IsHeapTable table.now }
     requires own { Belongs table.now pass.old }
-    ensures own { Belongs table.now pass.new }
-    ensures same { IsSamePass pass.old pass.new }
+    ensures stays { Stays table.now pass.old pass.new }
     ensures took { TookHeap (view_of pass.old) (view_of pass.new) (limits_of table.now).capacity }
 {
     table.lock(rt, pass, HEAP_LOCK);
@@ -27,8 +26,7 @@ pub(crate) fn free_heap(table: &HuntTable, pass: &mut HuntPass)
     requires own { Belongs table.now pass.old }
     requires held { Contains (view_of pass.old).post.locks layout.heap_lock }
     requires stored { (view_of pass.old).post.own.size_stored ≡ (view_of pass.old).post.own.size_counted }
-    ensures own { Belongs table.now pass.new }
-    ensures same { IsSamePass pass.old pass.new }
+    ensures stays { Stays table.now pass.old pass.new }
     ensures freed { ComesTo (view_of pass.old) (view_of pass.new) (without_heap (view_of pass.old).post) }
 {
     table.unlock(pass, HEAP_LOCK);

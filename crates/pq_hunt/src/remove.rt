@@ -9,7 +9,7 @@ ghost use Rattle.pq_api.specs.Answers.{IsRemoved, IsRemovedBelow, IsBelow};
 ghost use Rattle.pq_seats.specs.Views.{empty_post, with_post};
 ghost use Rattle.pq_seats.specs.Batches.{letters_of};
 ghost use Rattle.pq_seats.specs.Laws.{history_limit};
-ghost use Rattle.pq_seats.specs.Passes.{limits_of, view_of, known, Belongs, IsSamePass, IsInformed};
+ghost use Rattle.pq_seats.specs.Passes.{limits_of, view_of, known, Belongs, IsInformed};
 ghost use Rattle.pq_hunt.specs.declared.nodes.Node.{Node};
 ghost use Rattle.pq_hunt.specs.declared.nodes.Node.TheVariants.{Busy};
 ghost use Rattle.pq_hunt.specs.Words.{Means, node_of};
@@ -17,7 +17,7 @@ ghost use Rattle.pq_hunt.specs.Batches.{flight_at};
 ghost use Rattle.pq_hunt.specs.Marks.{IsRemoval, MayGet};
 ghost use Rattle.pq_nodes.specs.Views.{guard};
 ghost use Rattle.pq_hunt.specs.Views.{idle};
-ghost use Rattle.pq_nodes.specs.Passes.{ComesTo};
+ghost use Rattle.pq_nodes.specs.Passes.{ComesTo, Stays};
 ghost use Rattle.pq_hunt.specs.HeldPosts.{at_heap, at_hole, removing, saying, telling};
 ghost use Rattle.pq_hunt.specs.Takes.{IsUsed, AreApart};
 ghost use Rattle.pq_hunt.specs.Takes.{IsBarred, MayGetRoot, IsAnswered, IsPlaced, IsOpened, HasTaken};
@@ -44,8 +44,7 @@ fn draw_empty(table: &HuntTable, pass: &mut HuntPass, act: Act) -> u32
     requires removes { IsRemoval act }
     requires begun { (view_of pass.old).post ≡ at_heap pass.old.number 0 }
     requires few { length (known pass.old).calls < call_limit - 1 }
-    ensures own { Belongs table.now pass.new }
-    ensures same { IsSamePass pass.old pass.new }
+    ensures stays { Stays table.now pass.old pass.new }
     ensures answered { IsAnswered table.now pass.old pass.new act result replies.Empty }
 {
     let place = table.draw(pass, act, 1);
@@ -59,8 +58,7 @@ fn take_root<W: Wait>(table: &HuntTable, rt: &W, pass: &mut HuntPass, size: u32)
     requires own { Belongs table.now pass.old }
     requires size { 1 ≤ size }
     requires begun { (view_of pass.old).post ≡ at_heap pass.old.number size }
-    ensures own { Belongs table.now pass.new }
-    ensures same { IsSamePass pass.old pass.new }
+    ensures stays { Stays table.now pass.old pass.new }
     ensures used { IsUsed result }
     ensures took { ComesTo (view_of pass.old) (view_of pass.new)
         (removing pass.old.number [] size size (saying 1 result ∷ [])) }
@@ -81,8 +79,7 @@ fn take_last<W: Wait>(
     requires own { Belongs table.now pass.old }
     requires size { (2 ≤ size) × (size ≤ (limits_of table.now).capacity) }
     requires begun { (view_of pass.old).post ≡ removing pass.old.number [] size size (saying 1 root ∷ []) }
-    ensures own { Belongs table.now pass.new }
-    ensures same { IsSamePass pass.old pass.new }
+    ensures stays { Stays table.now pass.old pass.new }
     ensures used { IsUsed result }
     ensures apart { AreApart (node_of root) (node_of result) }
     ensures took { ComesTo (view_of pass.old) (view_of pass.new)
@@ -109,8 +106,7 @@ fn tell(table: &HuntTable, pass: &mut HuntPass, word: HeapWord, place: u32)
     requires fits { FitsHeapWord word }
     requires owed { (o : _) (e : Entry) → node_of word ≡ Busy o e →
         Contains (view_of pass.old).post.owed (o, place + 1) }
-    ensures own { Belongs table.now pass.new }
-    ensures same { IsSamePass pass.old pass.new }
+    ensures stays { Stays table.now pass.old pass.new }
     ensures view { view_of pass.new ≡ with_post (view_of pass.old) (telling (view_of pass.old).post (node_of word)) }
 {
     match word.tag {
@@ -128,8 +124,7 @@ fn free_root(table: &HuntTable, pass: &mut HuntPass, root: HeapWord, word: u64, 
     requires drawn { (size : _) × (stored : _) × (counted : Node) × Means counted word × ((view_of pass.old).post ≡
         removing pass.old.number (letters_of place (flight_at (node_of root))) size size
         (guard 1 stored counted ∷ [])) }
-    ensures own { Belongs table.now pass.new }
-    ensures same { IsSamePass pass.old pass.new }
+    ensures stays { Stays table.now pass.old pass.new }
     ensures rests { ComesTo (view_of pass.old) (view_of pass.new) (empty_post idle pass.old.number) }
     ensures small { (view_of pass.old).front ≤ history_limit }
 {
@@ -149,8 +144,7 @@ fn draw_above(table: &HuntTable, pass: &mut HuntPass, limit: u32, size: u32, roo
     requires above { limit ≤ root.entry.key }
     requires post { (view_of pass.old).post ≡ removing pass.old.number [] size size (saying 1 root ∷ []) }
     requires few { length (known pass.old).calls < call_limit - 1 }
-    ensures own { Belongs table.now pass.new }
-    ensures same { IsSamePass pass.old pass.new }
+    ensures stays { Stays table.now pass.old pass.new }
     ensures answered { IsAnswered table.now pass.old pass.new (RemoveBelow limit) result replies.Above }
 {
     let before = helped(root);
@@ -172,8 +166,7 @@ fn draw_last(table: &HuntTable, pass: &mut HuntPass, act: Act, root: HeapWord) -
     requires may { MayGet act root.entry }
     requires post { (view_of pass.old).post ≡ removing pass.old.number [] 1 1 (saying 1 root ∷ []) }
     requires few { length (known pass.old).calls < call_limit - 1 }
-    ensures own { Belongs table.now pass.new }
-    ensures same { IsSamePass pass.old pass.new }
+    ensures stays { Stays table.now pass.old pass.new }
     ensures answered { IsAnswered table.now pass.old pass.new act result (replies.Got root.entry) }
 {
     let before = helped(root);
@@ -196,8 +189,7 @@ fn place_got(
     requires table { IsHeapTable table.now }
     requires own { Belongs table.now pass.old }
     requires gets { MayGetRoot table.now pass.old act size root last }
-    ensures own { Belongs table.now pass.new }
-    ensures same { IsSamePass pass.old pass.new }
+    ensures stays { Stays table.now pass.old pass.new }
     ensures placed { IsPlaced table.now pass.old pass.new act root last size result }
 {
     let before = helped(root);
@@ -222,8 +214,7 @@ fn draw_got(
     requires table { IsHeapTable table.now }
     requires own { Belongs table.now pass.old }
     requires gets { MayGetRoot table.now pass.old act size root last }
-    ensures own { Belongs table.now pass.new }
-    ensures same { IsSamePass pass.old pass.new }
+    ensures stays { Stays table.now pass.old pass.new }
     ensures opened { IsOpened table.now pass.old pass.new act root.entry result last.entry }
 {
     let place = place_got(table, pass, act, size, root, last);
@@ -263,8 +254,7 @@ fn take<W: Wait>(table: &HuntTable, rt: &W, pass: &mut HuntPass, act: Act) -> Ta
     requires removes { IsRemoval act }
     requires rests { (view_of pass.old).post ≡ empty_post idle pass.old.number }
     requires few { length (known pass.old).calls < call_limit - 1 }
-    ensures own { Belongs table.now pass.new }
-    ensures same { IsSamePass pass.old pass.new }
+    ensures stays { Stays table.now pass.old pass.new }
     ensures taken { HasTaken table.now pass.old pass.new act result }
 {
     let size = begin(table, rt, pass);
@@ -294,8 +284,7 @@ fn take_entry<W: Wait>(
     requires may { MayGet act root.entry }
     requires post { (view_of pass.old).post ≡ removing pass.old.number [] size size (saying 1 root ∷ []) }
     requires few { length (known pass.old).calls < call_limit - 1 }
-    ensures own { Belongs table.now pass.new }
-    ensures same { IsSamePass pass.old pass.new }
+    ensures stays { Stays table.now pass.old pass.new }
     ensures taken { HasTaken table.now pass.old pass.new act result }
 {
     if size == 1 {
@@ -322,8 +311,7 @@ pub(crate) fn remove<W: Wait, F: FnMut()>(
     requires own { Belongs table.now pass.old }
     requires rests { (view_of pass.old).post ≡ empty_post idle pass.old.number }
     requires few { length (known pass.old).calls < call_limit - 1 }
-    ensures own { Belongs table.now pass.new }
-    ensures same { IsSamePass pass.old pass.new }
+    ensures stays { Stays table.now pass.old pass.new }
     ensures rests { (view_of pass.new).post ≡ empty_post idle pass.old.number }
     ensures call { IsRemoved (known pass.old) result (known pass.new) }
     ensures knows { IsInformed table.now pass.new }
@@ -352,8 +340,7 @@ pub(crate) fn remove_below<W: Wait, F: FnMut()>(
     requires own { Belongs table.now pass.old }
     requires rests { (view_of pass.old).post ≡ empty_post idle pass.old.number }
     requires few { length (known pass.old).calls < call_limit - 1 }
-    ensures own { Belongs table.now pass.new }
-    ensures same { IsSamePass pass.old pass.new }
+    ensures stays { Stays table.now pass.old pass.new }
     ensures rests { (view_of pass.new).post ≡ empty_post idle pass.old.number }
     ensures call { IsRemovedBelow (known pass.old) limit result (known pass.new) }
     ensures key { IsBelow limit result }

@@ -1,6 +1,6 @@
 //! How a remover sifts its hole down, until the entry that it has in hand fills it.
 ghost use Rattle.std.specs.Prelude.{◌≡◌, ◌<◌, ◌≤◌, ◌+◌, ◌*◌, ℕ, List, [], ◌∷◌};
-ghost use Rattle.pq_seats.specs.Passes.{limits_of, view_of, Belongs, IsSamePass};
+ghost use Rattle.pq_seats.specs.Passes.{limits_of, view_of, Belongs};
 ghost use Rattle.pq_seats.specs.Views.{empty_post};
 ghost use Rattle.pq_hunt.specs.declared.nodes.Node.{Node};
 ghost use Rattle.pq_hunt.specs.declared.nodes.Node.TheVariants.{Hole};
@@ -9,7 +9,7 @@ ghost use Rattle.pq_hunt.specs.Order.{MayStandOver};
 ghost use Rattle.pq_hunt.specs.Words.{Means};
 ghost use Rattle.pq_nodes.specs.Views.{guard};
 ghost use Rattle.pq_hunt.specs.Views.{idle};
-ghost use Rattle.pq_nodes.specs.Passes.{ComesTo};
+ghost use Rattle.pq_nodes.specs.Passes.{ComesTo, Stays};
 ghost use Rattle.pq_hunt.specs.HeldPosts.{IsHolding, Leaves};
 ghost use Rattle.pq_hunt.specs.Sifting.{IsRank, CanFillFirst, CanRiseLeft, AtTwo};
 ghost use Rattle.pq_hunt.specs.Sifting.{IsLeast, Sifted};
@@ -36,8 +36,7 @@ pub(crate) fn sift<W: Wait, F: FnMut()>(
     requires own { Belongs table.now pass.old }
     requires post { (word : ℕ) × ((view_of pass.old).post ≡ at_hole pass.old.number 1 word hand) }
     requires gate { F.IsAlwaysCallable below_root }
-    ensures own { Belongs table.now pass.new }
-    ensures same { IsSamePass pass.old pass.new }
+    ensures stays { Stays table.now pass.old pass.new }
     ensures done { ComesTo (view_of pass.old) (view_of pass.new) (empty_post idle pass.old.number) }
 {
     let capacity = capacity_of(table);
@@ -74,8 +73,7 @@ fn sift_once<W: Wait>(
     requires capacity { capacity ≡ (limits_of table.now).capacity }
     requires hole { (1 ≤ hole) × (hole ≤ capacity) }
     requires holds { (word : ℕ) × IsHolding (view_of pass.old) (guard hole word (Hole hand) ∷ []) }
-    ensures own { Belongs table.now pass.new }
-    ensures same { IsSamePass pass.old pass.new }
+    ensures stays { Stays table.now pass.old pass.new }
     ensures sifted { Sifted capacity (view_of pass.old) (view_of pass.new) hole hand result }
 {
     if capacity / 2 < hole {
@@ -94,8 +92,7 @@ fn sift_one<W: Wait>(table: &HuntTable, rt: &W, pass: &mut HuntPass, hole: u32, 
     requires own { Belongs table.now pass.old }
     requires hole { (1 ≤ hole) × (2 * hole ≡ (limits_of table.now).capacity) }
     requires holds { (word : ℕ) × IsHolding (view_of pass.old) (guard hole word (Hole hand) ∷ []) }
-    ensures own { Belongs table.now pass.new }
-    ensures same { IsSamePass pass.old pass.new }
+    ensures stays { Stays table.now pass.old pass.new }
     ensures sifted { Sifted (limits_of table.now).capacity (view_of pass.old) (view_of pass.new) hole hand result }
 {
     let left = 2 * hole;
@@ -117,8 +114,7 @@ fn sift_two<W: Wait>(table: &HuntTable, rt: &W, pass: &mut HuntPass, hole: u32, 
     requires own { Belongs table.now pass.old }
     requires hole { (1 ≤ hole) × (2 * hole + 1 ≤ (limits_of table.now).capacity) }
     requires holds { (word : ℕ) × IsHolding (view_of pass.old) (guard hole word (Hole hand) ∷ []) }
-    ensures own { Belongs table.now pass.new }
-    ensures same { IsSamePass pass.old pass.new }
+    ensures stays { Stays table.now pass.old pass.new }
     ensures sifted { Sifted (limits_of table.now).capacity (view_of pass.old) (view_of pass.new) hole hand result }
 {
     take_node(table, rt, pass, 2 * hole);
@@ -142,8 +138,7 @@ fn choose(
     requires own { Belongs table.now pass.old }
     requires hole { (1 ≤ hole) × (2 * hole + 1 ≤ (limits_of table.now).capacity) }
     requires at { (l : Node) × (r : Node) × AtTwo (view_of pass.old) hole hand left l right r }
-    ensures own { Belongs table.now pass.new }
-    ensures same { IsSamePass pass.old pass.new }
+    ensures stays { Stays table.now pass.old pass.new }
     ensures sifted { Sifted (limits_of table.now).capacity (view_of pass.old) (view_of pass.new) hole hand result }
 {
     let left_rank = rank(left);
@@ -180,8 +175,7 @@ fn fill_hole(table: &HuntTable, pass: &mut HuntPass, hole: u32, hand: Entry)
     requires hole { (1 ≤ hole) × (hole ≤ (limits_of table.now).capacity) }
     requires fill { (others : List Guard) ×
         CanFillFirst (limits_of table.now).capacity (view_of pass.old) hole hand others }
-    ensures own { Belongs table.now pass.new }
-    ensures same { IsSamePass pass.old pass.new }
+    ensures stays { Stays table.now pass.old pass.new }
     ensures filled { (others : List Guard) →
         CanFillFirst (limits_of table.now).capacity (view_of pass.old) hole hand others →
         Leaves (view_of pass.old) (view_of pass.new) others }
@@ -203,8 +197,7 @@ fn fill_two(table: &HuntTable, pass: &mut HuntPass, hole: u32, hand: Entry)
     requires hole { (1 ≤ hole) × (2 * hole + 1 ≤ (limits_of table.now).capacity) }
     requires at { (m : ℕ) × (l : Node) × (n : ℕ) × (r : Node) × AtTwo (view_of pass.old) hole hand m l n r
         × MayStandOver hand l × MayStandOver hand r }
-    ensures own { Belongs table.now pass.new }
-    ensures same { IsSamePass pass.old pass.new }
+    ensures stays { Stays table.now pass.old pass.new }
     ensures filled { Leaves (view_of pass.old) (view_of pass.new) [] }
 {
     fill_hole(table, pass, hole, hand);
@@ -219,8 +212,7 @@ fn rise_left(table: &HuntTable, pass: &mut HuntPass, hole: u32, word: u64, hand:
     requires hole { (1 ≤ hole) × (hole ≤ (limits_of table.now).capacity) }
     requires rise { (left : Node) × (others : List Guard) ×
         CanRiseLeft (limits_of table.now).capacity (view_of pass.old) hole word hand left others }
-    ensures own { Belongs table.now pass.new }
-    ensures same { IsSamePass pass.old pass.new }
+    ensures stays { Stays table.now pass.old pass.new }
     ensures risen { (left : Node) (others : List Guard) →
         CanRiseLeft (limits_of table.now).capacity (view_of pass.old) hole word hand left others →
         Leaves (view_of pass.old) (view_of pass.new) (guard (2 * hole) word (Hole hand) ∷ others) }
@@ -236,8 +228,7 @@ fn rise_left_of_two(table: &HuntTable, pass: &mut HuntPass, hole: u32, word: u64
     requires hole { (1 ≤ hole) × (2 * hole + 1 ≤ (limits_of table.now).capacity) }
     requires at { (l : Node) × (n : ℕ) × (r : Node) × AtTwo (view_of pass.old) hole hand word l n r
         × IsLeast hand l r }
-    ensures own { Belongs table.now pass.new }
-    ensures same { IsSamePass pass.old pass.new }
+    ensures stays { Stays table.now pass.old pass.new }
     ensures risen { Leaves (view_of pass.old) (view_of pass.new) (guard (2 * hole) word (Hole hand) ∷ []) }
 {
     rise_left(table, pass, hole, word, hand);
@@ -252,8 +243,7 @@ fn rise_right(table: &HuntTable, pass: &mut HuntPass, hole: u32, word: u64, hand
     requires hole { (1 ≤ hole) × (2 * hole + 1 ≤ (limits_of table.now).capacity) }
     requires at { (m : ℕ) × (l : Node) × (r : Node) × AtTwo (view_of pass.old) hole hand m l word r
         × IsLeast hand r l }
-    ensures own { Belongs table.now pass.new }
-    ensures same { IsSamePass pass.old pass.new }
+    ensures stays { Stays table.now pass.old pass.new }
     ensures risen { Leaves (view_of pass.old) (view_of pass.new) (guard (2 * hole + 1) word (Hole hand) ∷ []) }
 {
     raise_third(table, pass, hole, word);

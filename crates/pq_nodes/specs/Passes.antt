@@ -3,7 +3,8 @@ use Rattle.std.specs.Prelude.{◌≡◌, ◌≢◌, ℕ, ◌<◌, ◌≤◌, Con
 use Rattle.pq_seats.specs.declared.views.Post.{Post}
 use Rattle.pq_seats.specs.declared.views.View.{View}
 use Rattle.pq_seats.specs.declared.shared.Shared.{Shared}
-use Rattle.pq_seats.specs.Passes.{limits_of}
+use Rattle.pq_seats.specs.declared.shared.SeatPass.{SeatPass}
+use Rattle.pq_seats.specs.Passes.{limits_of, Belongs, IsSamePass}
 use Rattle.pq_nodes.specs.Layout.{lock_of, word_of, max_node}
 use Rattle.pq_nodes.specs.Views.{guard}
 use Rattle.pq_nodes.specs.Parts.{NodePart, with_node, IsFreeable}
@@ -13,6 +14,11 @@ pub record ComesTo {O : Type 0} (v w : View O) (p : Post O) : Type 0 where
   pub post : w.post ≡ p
   pub lanes : w.lanes ≡ v.lanes
   pub front : w.front ≡ v.front
+
+-- the pass is one of the table still, with the number, the seat and the number of lanes that it had
+pub record Stays {R O : Type 0} (q : Shared R O) (p p' : SeatPass R O) : Type 0 where
+  pub own : Belongs q p'
+  pub same : IsSamePass p p'
 
 module _ {O N : Type 0} (P : NodePart O N) where
   -- a node of the table with this number, whose words the table has

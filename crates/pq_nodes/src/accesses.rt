@@ -1,13 +1,13 @@
 //! Loads and stores of nodes' words, each one step under locks that the seat holds.
 ghost use Rattle.std.specs.Prelude.{◌≡◌, ◌≤◌, Contains};
-ghost use Rattle.pq_seats.specs.Passes.{limits_of, view_of, Belongs, IsSamePass};
+ghost use Rattle.pq_seats.specs.Passes.{limits_of, view_of, Belongs};
 ghost use Rattle.pq_seats.specs.Views.{with_post};
 ghost use Rattle.pq_seats.specs.Laws.{history_limit};
 ghost use Rattle.pq_nodes.specs.declared.guards.Guard.{Guard};
 ghost use Rattle.pq_nodes.specs.Views.{exchanged, exchanged_third};
 ghost use Rattle.pq_nodes.specs.Parts.{HasGuard, guarding, with_word};
 ghost use Rattle.pq_nodes.specs.Raising.{CanRaiseSecond, CanRaiseThird};
-ghost use Rattle.pq_nodes.specs.Passes.{IsNode};
+ghost use Rattle.pq_nodes.specs.Passes.{IsNode, Stays};
 
 use crate::NodeRule;
 use crate::layout::word_of;
@@ -18,8 +18,7 @@ use pq_seats::{SeatPass, Shared};
 pub fn look<R: NodeRule>(table: &Shared<R>, pass: &mut SeatPass<R>, node: u32) -> u64
     requires own { Belongs table.now pass.old }
     requires node { IsNode R.nodes table.now node }
-    ensures own { Belongs table.now pass.new }
-    ensures same { IsSamePass pass.old pass.new }
+    ensures stays { Stays table.now pass.old pass.new }
     ensures view { view_of pass.new ≡ view_of pass.old }
     ensures word { (g : Guard R.Node) → Contains (R.nodes.guards (view_of pass.old).post.own) g →
         g.node ≡ node → result ≡ g.stored }
@@ -37,8 +36,7 @@ pub fn store<R: NodeRule>(table: &Shared<R>, pass: &mut SeatPass<R>, node: u32, 
     requires node { IsNode R.nodes table.now node }
     requires guarded { HasGuard R.nodes (view_of pass.old) node }
     requires allowed { R.nodes.may_store (view_of pass.old).post node word }
-    ensures own { Belongs table.now pass.new }
-    ensures same { IsSamePass pass.old pass.new }
+    ensures stays { Stays table.now pass.old pass.new }
     ensures view { view_of pass.new ≡
         with_post (view_of pass.old) (with_word R.nodes (view_of pass.old).post node word) }
     ensures small { (view_of pass.old).front ≤ history_limit }
@@ -55,8 +53,7 @@ pub fn raise_second<R: NodeRule>(table: &Shared<R>, pass: &mut SeatPass<R>, hole
     requires own { Belongs table.now pass.old }
     requires node { IsNode R.nodes table.now hole }
     requires raise { CanRaiseSecond R.rule R.nodes (limits_of table.now) pass.old.seat.id (view_of pass.old) hole word }
-    ensures own { Belongs table.now pass.new }
-    ensures same { IsSamePass pass.old pass.new }
+    ensures stays { Stays table.now pass.old pass.new }
     ensures view { view_of pass.new ≡ with_post (view_of pass.old)
         (guarding R.nodes (view_of pass.old).post (exchanged (R.nodes.guards (view_of pass.old).post.own))) }
 {
@@ -72,8 +69,7 @@ pub fn raise_third<R: NodeRule>(table: &Shared<R>, pass: &mut SeatPass<R>, hole:
     requires own { Belongs table.now pass.old }
     requires node { IsNode R.nodes table.now hole }
     requires raise { CanRaiseThird R.rule R.nodes (limits_of table.now) pass.old.seat.id (view_of pass.old) hole word }
-    ensures own { Belongs table.now pass.new }
-    ensures same { IsSamePass pass.old pass.new }
+    ensures stays { Stays table.now pass.old pass.new }
     ensures view { view_of pass.new ≡ with_post (view_of pass.old)
         (guarding R.nodes (view_of pass.old).post (exchanged_third (R.nodes.guards (view_of pass.old).post.own))) }
 {

@@ -1,9 +1,9 @@
 //! Taking and freeing the locks of nodes.
 ghost use Rattle.std.specs.Prelude.{Contains};
-ghost use Rattle.pq_seats.specs.Passes.{view_of, Belongs, IsSamePass};
+ghost use Rattle.pq_seats.specs.Passes.{view_of, Belongs};
 ghost use Rattle.pq_nodes.specs.Layout as layout;
 ghost use Rattle.pq_nodes.specs.Parts.{without_node, IsFreeable};
-ghost use Rattle.pq_nodes.specs.Passes.{ComesTo, IsNode, TookNode, HoldsTwo};
+ghost use Rattle.pq_nodes.specs.Passes.{ComesTo, IsNode, TookNode, HoldsTwo, Stays};
 
 use crate::NodeRule;
 use crate::layout::lock_of;
@@ -17,8 +17,7 @@ use std::sync::Wait;
 pub fn take_node<R: NodeRule, W: Wait>(table: &Shared<R>, rt: &W, pass: &mut SeatPass<R>, node: u32)
     requires own { Belongs table.now pass.old }
     requires node { IsNode R.nodes table.now node }
-    ensures own { Belongs table.now pass.new }
-    ensures same { IsSamePass pass.old pass.new }
+    ensures stays { Stays table.now pass.old pass.new }
     ensures took { TookNode R.nodes (view_of pass.old) (view_of pass.new) node }
 {
     if table.try_lock(pass, lock_of(node)) {
@@ -33,8 +32,7 @@ pub fn take_node<R: NodeRule, W: Wait>(table: &Shared<R>, rt: &W, pass: &mut Sea
 fn wait_for_node<R: NodeRule, W: Wait>(table: &Shared<R>, rt: &W, pass: &mut SeatPass<R>, node: u32)
     requires own { Belongs table.now pass.old }
     requires node { IsNode R.nodes table.now node }
-    ensures own { Belongs table.now pass.new }
-    ensures same { IsSamePass pass.old pass.new }
+    ensures stays { Stays table.now pass.old pass.new }
     ensures took { TookNode R.nodes (view_of pass.old) (view_of pass.new) node }
 {
     Backoff::new().snooze();
@@ -47,8 +45,7 @@ pub fn free_node<R: NodeRule>(table: &Shared<R>, pass: &mut SeatPass<R>, node: u
     requires node { IsNode R.nodes table.now node }
     requires held { Contains (view_of pass.old).post.locks (layout.lock_of node) }
     requires counted { IsFreeable R.nodes (view_of pass.old) node }
-    ensures own { Belongs table.now pass.new }
-    ensures same { IsSamePass pass.old pass.new }
+    ensures stays { Stays table.now pass.old pass.new }
     ensures freed { ComesTo (view_of pass.old) (view_of pass.new) (without_node R.nodes (view_of pass.old).post node) }
 {
     table.unlock(pass, lock_of(node));
@@ -59,8 +56,7 @@ pub fn free_two<R: NodeRule>(table: &Shared<R>, pass: &mut SeatPass<R>, first: u
     requires own { Belongs table.now pass.old }
     requires nodes { IsNode R.nodes table.now first × IsNode R.nodes table.now second }
     requires held { HoldsTwo R.nodes (view_of pass.old) first second }
-    ensures own { Belongs table.now pass.new }
-    ensures same { IsSamePass pass.old pass.new }
+    ensures stays { Stays table.now pass.old pass.new }
     ensures freed { ComesTo (view_of pass.old) (view_of pass.new)
         (without_node R.nodes (without_node R.nodes (view_of pass.old).post second) first) }
 {

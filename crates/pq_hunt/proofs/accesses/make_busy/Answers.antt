@@ -19,9 +19,12 @@ store-requires c =
     let r = c.requires.leaf in let e = c.requires.word in
     (own.table, omega (arith, c.word_of.ensures, c.requires.node.1), subst (λ (z : ℕ). Allows (Holds hunt_rule k) slots id me z (λ _. c.args.word) (λ _. steps.leafs (step slots z c.args.word 0 none) me c.args.word)) (ap node_layout.word_of r.is ∙ sym c.word_of.ensures) (may_leaf k slots id me r.guard r.others c.args.word e.0 r.guards r.locked (omega arith) r.idle r.quiet c.requires.few (r.is ∙ r.next) (omega (arith, r.is, c.requires.node.1)) (subst (λ (z : ℕ). Means (Busy z e.0) c.args.word) own.named e.1)))
 
-pub returns-clause-own : goal.returns-clause-own
-returns-clause-own c =
+pub returns-clause-stays : goal.returns-clause-stays
+returns-clause-stays c =
     let z = c.args.table.now.table.shared.table_id in let k = c.args.table.now.table.shared.key in let old = c.args.pass.now.seat in let new = c.store.new.seat in
     let e = c.requires.word in let n = c.args.pass.now.number in let lanes = c.args.pass.now.lanes in
-    sits_on z k n lanes old new (steps.leafed old.me.0.post c.args.word e.0) c.requires.own c.store.ensures.0 refl
-    (c.store.ensures.2 e.0 (subst (λ (m : ℕ). Means (Busy m e.0) c.args.word) c.requires.own.named e.1))
+    record {
+      own = sits_on z k n lanes old new (steps.leafed old.me.0.post c.args.word e.0) c.requires.own c.store.ensures.0 refl
+          (c.store.ensures.2 e.0 (subst (λ (m : ℕ). Means (Busy m e.0) c.args.word) c.requires.own.named e.1));
+      same = (refl, refl, c.store.ensures.1);
+    }

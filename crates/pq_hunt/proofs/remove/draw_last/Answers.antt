@@ -29,7 +29,7 @@ free_root-requires-clause-drawn c =
     let n = c.args.pass.now.number in let v0 = c.args.pass.now.seat.me.0 in let own = c.requires.own in let low = own.seated.0 in let root = c.args.root in let r = node_of root in let act = c.args.act in let may = c.requires.may in let before = c.helped-before.ensures in
     let v1 = c.store_size.new.pass.seat.me.0 in let q1 = removing.to_unsized n c.args.root c.requires.root act may v0 v1 c.requires.post c.store_size.ensures.view in
     let place = c.draw-place.result in let v2 = c.draw-place.new.pass.seat.me.0 in let drew = c.draw-place.ensures.view in let q2 = ap (λ (z : View HuntPart). z.post) drew ∙ removing.to_last_drawn n c.args.root c.requires.root act may place v1.post q1 in
-    let number = c.draw-place.ensures.same.0 ∙ c.store_size.ensures.same.0 in let b = hunt_batch v1.post.own act in let is_b = removing.last_batch n c.args.root c.requires.root act may v1.post q1 ∙ removing.last_reply n c.args.root c.requires.root act may in
+    let number = c.draw-place.ensures.same.0 ∙ c.store_size.ensures.stays.same.0 in let b = hunt_batch v1.post.own act in let is_b = removing.last_batch n c.args.root c.requires.root act may v1.post q1 ∙ removing.last_reply n c.args.root c.requires.root act may in
     subst (λ (z : ℕ). (s : ℕ) × (x : ℕ) × (counted : Node) × Means counted 0 × (v2.post ≡ posts.removing z (letters_of place (flight_at r)) s s (guard 1 x counted ∷ []))) (sym number)
     (0, heap_number root, Empty, removing.empty_means, q2)
 
@@ -38,7 +38,7 @@ returns-clause-answered c =
     let n = c.args.pass.now.number in let v0 = c.args.pass.now.seat.me.0 in let own = c.requires.own in let low = own.seated.0 in let root = c.args.root in let r = node_of root in let act = c.args.act in let may = c.requires.may in let before = c.helped-before.ensures in
     let v1 = c.store_size.new.pass.seat.me.0 in let q1 = removing.to_unsized n c.args.root c.requires.root act may v0 v1 c.requires.post c.store_size.ensures.view in
     let place = c.draw-place.result in let v2 = c.draw-place.new.pass.seat.me.0 in let drew = c.draw-place.ensures.view in let q2 = ap (λ (z : View HuntPart). z.post) drew ∙ removing.to_last_drawn n c.args.root c.requires.root act may place v1.post q1 in
-    let number = c.draw-place.ensures.same.0 ∙ c.store_size.ensures.same.0 in let b = hunt_batch v1.post.own act in let is_b = removing.last_batch n c.args.root c.requires.root act may v1.post q1 ∙ removing.last_reply n c.args.root c.requires.root act may in
+    let number = c.draw-place.ensures.same.0 ∙ c.store_size.ensures.stays.same.0 in let b = hunt_batch v1.post.own act in let is_b = removing.last_batch n c.args.root c.requires.root act may v1.post q1 ∙ removing.last_reply n c.args.root c.requires.root act may in
     let v3 = c.free_root.new.pass.seat.me.0 in let f = c.free_root.ensures.rests in
     let same1 = removing.same_known v0 v1 (ap (λ (p : Post HuntPart). p.number) q1 ∙ sym (ap (λ (p : Post HuntPart). p.number) c.requires.post)) (ap (λ (z : View HuntPart). z.lanes) c.store_size.ensures.view) (ap (λ (z : View HuntPart). z.front) c.store_size.ensures.view) in
     let same = removing.same_known v2 v3 (ap (λ (p : Post HuntPart). p.number) f.post ∙ (number ∙ sym (ap (λ (p : Post HuntPart). p.number) q2))) f.lanes f.front in
