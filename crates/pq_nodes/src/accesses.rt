@@ -47,8 +47,8 @@ pub fn store<R: NodeRule>(table: &Shared<R>, pass: &mut SeatPass<R>, node: u32, 
         .store::<Store<R>>(&mut pass.seat, word_of(node) as usize, word);
 }
 
-/// Stores the word of the second guard's node in the hole, which is the first one's. The two nodes count in each other's
-/// place from then on.
+/// Stores the word of the second guard's node in the hole, which is the first one's. The two nodes count in each
+/// other's place from then on.
 pub fn raise_second<R: NodeRule>(table: &Shared<R>, pass: &mut SeatPass<R>, hole: u32, word: u64)
     requires own { Belongs table.now pass.old }
     requires node { IsNode R.nodes table.now hole }
@@ -63,8 +63,8 @@ pub fn raise_second<R: NodeRule>(table: &Shared<R>, pass: &mut SeatPass<R>, hole
         .store::<RaiseSecond<R>>(&mut pass.seat, word_of(hole) as usize, word);
 }
 
-/// Stores the word of the third guard's node in the hole, which is the first one's. The two nodes count in each other's
-/// place from then on.
+/// Stores the word of the third guard's node in the hole, which is the first one's. The two nodes count in each
+/// other's place from then on.
 pub fn raise_third<R: NodeRule>(table: &Shared<R>, pass: &mut SeatPass<R>, hole: u32, word: u64)
     requires own { Belongs table.now pass.old }
     requires node { IsNode R.nodes table.now hole }
