@@ -9,6 +9,7 @@ mod letters;
 mod locks;
 mod plays;
 mod rule;
+mod seated;
 mod shared;
 mod views;
 
@@ -17,5 +18,6 @@ pub use laws::{
     seats_know, silent_steps_keep,
 };
 pub use rule::{Ruled, SeatRule};
+pub use seated::SeatedQueue;
 pub use shared::{SeatPass, Shared};
 pub use views::{Limits, Post, View};
