@@ -14,7 +14,7 @@ ghost use Rattle.pq_hunt.specs.Queues.{SayNodes};
 use crate::insert::insert;
 use crate::layout::word_count;
 use crate::remove::{remove, remove_below};
-use crate::{HuntPass, HuntTable};
+use crate::{HuntPass, HuntRule, HuntTable};
 use atomic_table::Closed as ClosedTable;
 use pq_api::{
     Below, BoundedQueue, CloseRefusal, CloseWhy, Closed, Gate, Inserted, Point, Removed,
@@ -22,8 +22,7 @@ use pq_api::{
 };
 use pq_io::NoMemory;
 use pq_model::{MAX_CAPACITY, MAX_SEATS};
-use pq_nodes::word_of;
-use pq_seats::Shared;
+use pq_seats::{SeatedQueue, Shared};
 use pq_words::{Entry, HeapWord, Tag};
 use std::alloc::Global;
 use std::sync::Wait;
@@ -287,5 +286,29 @@ impl<G: Gate> BoundedQueue for HuntHeap<G> {
             pass,
             limit,
         )
+    }
+}
+
+impl<G: Gate> SeatedQueue for HuntHeap<G> {
+    ghost use Rattle.std.proofs.Common.{rules};
+
+    type Rule = HuntRule;
+
+    ghost table_of = { λ q. q.table };
+
+    ghost seat_of = { λ p. p };
+
+    ghost sits = { λ q p own. own.0 };
+
+    ghost keeps = { λ p. Prim.search rules };
+
+    ghost opened = { λ q. Prim.search rules };
+
+    fn table(&self) -> &Shared<HuntRule> {
+        &self.table
+    }
+
+    fn seat(pass: &HuntPass) -> &HuntPass {
+        pass
     }
 }
