@@ -63,8 +63,8 @@ fn run_command<Rt: Wait + Sync, Q: BoundedQueue>(
     };
 }
 
-// Makes a call of the queue.
-fn call<Rt: Wait + Sync, Q: BoundedQueue>(
+/// Makes a call of the queue: one of its three, by what the act asks.
+pub fn call<Rt: Wait + Sync, Q: BoundedQueue>(
     rt: &Rt,
     queue: &Q,
     pass: &mut Q::Pass,

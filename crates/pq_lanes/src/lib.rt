@@ -12,6 +12,7 @@ mod tracing;
 
 pub use answers::{Answer, answer_to_insert, answer_to_remove, answer_to_remove_below};
 pub use ending::history_of;
+pub use lane::call;
 pub use lanes::Lanes;
 pub use laws::{drills_leave_nothing, made_scripts_are_drills};
 pub use running::run_lanes;
