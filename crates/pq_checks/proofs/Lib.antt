@@ -2,3 +2,4 @@
 pub mod Taking
 pub mod Apart
 pub mod Filling
+pub mod Makings

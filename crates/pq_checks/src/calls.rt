@@ -1,12 +1,16 @@
-//! Calls of a queue with one seat, and whether its answers are those that are wanted.
-ghost use Rattle.std.specs.Prelude.{◌≡◌, ◌+◌, ◌-◌, ◌<◌, ◌≤◌, length};
+//! A call of a queue, made for a check, and the queue that a check leaves.
+ghost use Rattle.std.specs.Prelude.{◌≡◌, ◌-◌, ◌<◌, true, List, [], ◌∷◌, length, IfOk};
+ghost use Rattle.pq_model.specs.declared.marks.Mark.{Mark};
+ghost use Rattle.pq_model.specs.History.{IsLegal, left};
+ghost use Rattle.pq_model.specs.Passes.{IsActual};
 ghost use Rattle.pq_api.specs.Limits.{call_limit};
-ghost use Rattle.pq_checks.specs.Limits.{check_limit};
-ghost use Rattle.pq_checks.specs.Checks.{IsSameSeat};
+ghost use Rattle.inst_text.specs.Script.{IsCommand};
+ghost use Rattle.pq_checks.specs.Checks.{HasMade, asked};
 
-use pq_api::{Below, BoundedQueue, CloseRefusal, Closed, Inserted, Removed};
+use pq_api::{BoundedQueue, CloseWhy, SharedQueue};
 use pq_io::NoMemory;
-use pq_model::{Act, Reply};
+use pq_lanes::call;
+use pq_model::{Act, Call, Reply};
 use pq_words::{Entry, KEY_LIMIT};
 use std::alloc::Global;
 use std::sync::Wait;
@@ -26,7 +30,7 @@ pub enum CheckFault {
     Length,
     /// Other entries were left.
     Left,
-    /// The queue was not closed, though its one pass was given.
+    /// The queue was not closed, though all its passes were joined.
     NotClosed,
 }
 
@@ -38,112 +42,106 @@ impl From<NoMemory> for CheckFault {
     }
 }
 
-/// Makes a call, and gives its place and its reply. A limit above that of a key is taken as that, which means the
-/// same.
-pub(crate) fn call<R: Wait + Sync, Q: BoundedQueue>(
+/// A queue on which a check has made its calls, and the pass that keeps them.
+#[derive(Drop)]
+pub struct Made<Q, P> {
+    pub queue: Q,
+    pub pass: P,
+}
+
+// What a queue is asked.
+fn capped(act: Act) -> Act
+    ensures asked { result ≡ asked act }
+    ensures command { IsCommand result }
+{
+    match act {
+        Act::RemoveBelow(limit) => Act::RemoveBelow(limit.min(KEY_LIMIT)),
+        Act::Insert(_) | Act::Remove => act,
+    }
+}
+
+/// Makes a call, and gives it with its place and its reply. A limit above that of a key is taken as that, which means
+/// the same.
+pub(crate) fn make<R: Wait + Sync, Q: BoundedQueue>(
     rt: &R,
     queue: &Q,
     pass: &mut Q::Pass,
     act: Act,
-) -> (u32, Reply)
+) -> Call
     requires own { Q.belongs queue.now pass.old }
     requires few { length (Q.known pass.old).calls < call_limit - 1 }
     ensures own { Q.belongs queue.now pass.new }
-    ensures one { length (Q.known pass.new).calls ≡ length (Q.known pass.old).calls + 1 }
-    ensures same { IsSameSeat (Q.known pass.old) (Q.known pass.new) }
+    ensures made { HasMade (Q.known pass.old) (result ∷ []) (Q.known pass.new) }
+    ensures act { result.act ≡ asked act }
 {
-    match act {
-        Act::Insert(e) => match queue.insert(rt, pass, e) {
-            Inserted::Done(receipt) => (receipt.place, Reply::Done),
-            Inserted::Full(receipt) => (receipt.place, Reply::Full),
-        },
-        Act::Remove => match queue.remove(rt, pass) {
-            Removed::Got(e, receipt) => (receipt.place, Reply::Got(e)),
-            Removed::Empty(receipt) => (receipt.place, Reply::Empty),
-        },
-        Act::RemoveBelow(limit) => match queue.remove_below(rt, pass, limit.min(KEY_LIMIT)) {
-            Below::Got(e, receipt) => (receipt.place, Reply::Got(e)),
-            Below::Empty(receipt) => (receipt.place, Reply::Empty),
-            Below::Above(receipt) => (receipt.place, Reply::Above),
-        },
+    let act = capped(act);
+    let answer = call(rt, queue, pass, act);
+    Call {
+        place: answer.place,
+        act,
+        reply: answer.reply,
     }
 }
 
-/// Whether the call of this number was answered so, at the place of this number.
-pub(crate) fn is_answered(
-    call: u32,
-    (place, reply): (u32, Reply),
-    wanted: Option<Reply>,
-) -> Result<(), CheckFault> {
-    if place != call {
-        return Err(CheckFault::Place { call });
+/// Whether two replies are the same.
+pub(crate) fn is_same(a: Reply, b: Reply) -> bool
+    ensures { result ≡ true → a ≡ b }
+{
+    match (a, b) {
+        (Reply::Done, Reply::Done) => true,
+        (Reply::Got(e), Reply::Got(f)) => e.raw() == f.raw(),
+        (Reply::Empty, Reply::Empty) => true,
+        (Reply::Full, Reply::Full) => true,
+        (Reply::Above, Reply::Above) => true,
+        _ => false,
     }
-    if Some(reply) != wanted {
-        return Err(CheckFault::Reply { call });
-    }
-    Ok(())
 }
 
-/// Whether a queue was closed after this many calls with these entries left.
-pub(crate) fn is_closed<Q, P>(
-    closed: Result<Closed, CloseRefusal<Q, P>>,
+// Whether two lists have the same entries in the same order.
+fn are_same(xs: &[Entry], ys: &[Entry]) -> bool
+    ensures { result ≡ true → xs.now ≡ ys.now }
+{
+    if xs.len() != ys.len() {
+        return false;
+    }
+    for (place, x) in xs.iter().enumerate() {
+        if x.raw() != ys[place].raw() {
+            return false;
+        }
+    }
+    true
+}
+
+// What it means for a check that a queue was not closed.
+fn not_closed(why: CloseWhy) -> CheckFault {
+    match why {
+        CloseWhy::NoMemory => CheckFault::NoMemory,
+        CloseWhy::PassesOut { .. } => CheckFault::NotClosed,
+    }
+}
+
+/// Closes the queue of a check, all of whose passes are joined. Its history is to have this many calls, and these
+/// entries, in rising order, are to be left.
+pub fn leaves<Q: SharedQueue>(
+    alloc: Global,
+    made: Made<Q, Q::Pass>,
     calls: u32,
-    left: &[Entry],
+    entries: &[Entry],
 ) -> Result<(), CheckFault>
-where
-    Q: Drop,
-    P: Drop,
+    requires own { Q.belongs made.queue made.pass }
+    ensures left { IfOk result (λ _. (history : List Mark) × IsActual (Q.known made.pass) history
+        × IsLegal (Q.seats_of made.queue) (Q.capacity_of made.queue) history
+        × (length history ≡ calls) × (left history ≡ entries.now)) }
 {
-    let Ok(closed) = closed else {
-        return Err(CheckFault::NotClosed);
+    let closed = match made.queue.close(alloc, made.pass) {
+        Ok(closed) => closed,
+        Err(refusal) => return Err(not_closed(refusal.why)),
     };
     if closed.length != calls {
         return Err(CheckFault::Length);
     }
-    if closed.left.as_slice() != left {
+    if !are_same(&closed.left, entries) {
         return Err(CheckFault::Left);
     }
     Ok(())
-}
-
-// Makes all these calls, which are to be answered so.
-fn make_all<R: Wait + Sync, Q: BoundedQueue>(
-    rt: &R,
-    queue: &Q,
-    pass: &mut Q::Pass,
-    acts: &[Act],
-    replies: &[Reply],
-) -> Result<(), CheckFault>
-    requires own { Q.belongs queue.now pass.old }
-    requires few { length (Q.known pass.old).calls + length acts.now < call_limit - 1 }
-    ensures own { Q.belongs queue.now pass.new }
-{
-    for (number, act) in acts.iter().enumerate() {
-        let answer = call(rt, queue, pass, *act);
-        is_answered(number as u32, answer, replies.get(number).copied())?;
-    }
-    Ok(())
-}
-
-/// Makes these calls on a new queue of one seat and this capacity: each is to be answered so, at the place of its
-/// number, a look is to find as many as were made, and these entries, in rising order, are to be left at the end.
-pub fn answers_are<R: Wait + Sync, Q: BoundedQueue>(
-    rt: &R,
-    alloc: Global,
-    gate: Q::Gate,
-    capacity: u32,
-    acts: &[Act],
-    replies: &[Reply],
-    left: &[Entry],
-) -> Result<(), CheckFault>
-    requires room { (1 ≤ capacity) × (capacity ≤ Q.CAPACITY) }
-    requires few { length acts.now < check_limit }
-{
-    let (queue, mut passes) = Q::open(alloc, capacity, 1, gate)?;
-    let mut pass = passes.remove(0);
-    make_all(rt, &queue, &mut pass, acts, replies)?;
-    if queue.look(&mut pass) as usize != acts.len() {
-        return Err(CheckFault::Look);
-    }
-    is_closed(queue.close(alloc, pass), acts.len() as u32, left)
 }

@@ -1,8 +1,10 @@
 //! Calls drawn by a seed, beside a sorted list that is stepped by hand.
-ghost use Rattle.std.specs.Prelude.{◌<◌, ◌≤◌};
+ghost use Rattle.std.specs.Prelude.{◌≡◌, ◌<◌, ◌≤◌, length, IfOk};
 ghost use Rattle.pq_checks.specs.Limits.{check_limit};
+ghost use Rattle.pq_checks.specs.Checks.{IsAlone};
 
-use crate::calls::{CheckFault, call, is_answered, is_closed};
+use crate::answers::is_answered;
+use crate::calls::{CheckFault, Made, make};
 use pq_api::BoundedQueue;
 use pq_model::{Act, Reply};
 use pq_words::Entry;
@@ -30,7 +32,7 @@ fn drawn(x: u64) -> Act {
 }
 
 // What a sorted list with at most this many entries answers.
-fn listed(held: &mut Vec<Entry>, capacity: u32, act: Act) -> Result<Reply, AllocError> {
+fn answer_of_list(held: &mut Vec<Entry>, capacity: u32, act: Act) -> Result<Reply, AllocError> {
     match act {
         Act::Insert(_) if held.len() >= capacity as usize => Ok(Reply::Full),
         Act::Insert(e) => {
@@ -47,17 +49,23 @@ fn listed(held: &mut Vec<Entry>, capacity: u32, act: Act) -> Result<Reply, Alloc
 }
 
 /// Makes this many calls, drawn by the seed, on a new queue of one seat and this capacity. Each is to be answered as
-/// a sorted list answers, and what the list holds at the end is to be left.
+/// a sorted list of at most `listed` entries answers, which is as a queue of that capacity does. Gives the queue, whose
+/// pass has made that many calls, and what the list holds at the end.
 pub fn against_a_list<R: Wait + Sync, Q: BoundedQueue>(
     rt: &R,
     alloc: Global,
     gate: Q::Gate,
     capacity: u32,
+    listed: u32,
     seed: u64,
     calls: u32,
-) -> Result<(), CheckFault>
+) -> Result<(Made<Q, Q::Pass>, Vec<Entry>), CheckFault>
     requires room { (1 ≤ capacity) × (capacity ≤ Q.CAPACITY) }
     requires few { calls < check_limit }
+    ensures own { IfOk result (λ r. Q.belongs r.0.queue r.0.pass) }
+    ensures limits { IfOk result (λ r. (Q.capacity_of r.0.queue ≡ capacity) × (Q.seats_of r.0.queue ≡ 1)) }
+    ensures alone { IfOk result (λ r. IsAlone (Q.known r.0.pass)) }
+    ensures made { IfOk result (λ r. length (Q.known r.0.pass).calls ≡ calls) }
 {
     let (queue, mut passes) = Q::open(alloc, capacity, 1, gate)?;
     let mut pass = passes.remove(0);
@@ -66,11 +74,11 @@ pub fn against_a_list<R: Wait + Sync, Q: BoundedQueue>(
     for number in 0..calls {
         x = next(x);
         let act = drawn(x);
-        let Ok(wanted) = listed(&mut held, capacity, act) else {
+        let Ok(wanted) = answer_of_list(&mut held, listed, act) else {
             return Err(CheckFault::NoMemory);
         };
-        let answer = call(rt, &queue, &mut pass, act);
-        is_answered(number, answer, Some(wanted))?;
+        let made = make(rt, &queue, &mut pass, act);
+        is_answered(number, made, wanted)?;
     }
-    is_closed(queue.close(alloc, pass), calls, &held)
+    Ok((Made { queue, pass }, held))
 }

@@ -1,8 +1,10 @@
 //! Rows of calls with one seat, whose answers are worked by hand.
-ghost use Rattle.std.specs.Prelude.{◌<◌, ◌≤◌};
+ghost use Rattle.std.specs.Prelude.{◌<◌, ◌≤◌, length};
 ghost use Rattle.pq_words.specs.Limits.{key_limit, id_limit};
+ghost use Rattle.pq_checks.specs.Limits.{check_limit};
 
-use crate::calls::{CheckFault, answers_are};
+use crate::answers::answers_are;
+use crate::calls::{CheckFault, leaves};
 use pq_api::{BoundedQueue, Open};
 use pq_model::{Act, Reply};
 use pq_words::Entry;
@@ -44,12 +46,36 @@ fn got(key: u32, id: u32) -> Reply
     Reply::Got(Entry { key, id })
 }
 
-/// Runs each row, of a capacity of at most 4, on a new queue of one seat, and gives the number of the first that was
-/// answered otherwise, with what was amiss.
+/// Calls of one seat: what a new queue of this capacity is asked, what it is to answer, and what is to be left at the
+/// end, in rising order.
+#[derive(Clone, Copy)]
+pub struct Row<'a> {
+    pub capacity: u32,
+    pub acts: &'a [Act],
+    pub replies: &'a [Reply],
+    pub left: &'a [Entry],
+}
+
+/// Runs a row on a new queue of one seat, and closes it.
+pub fn row_is_answered<R: Wait + Sync, Q: BoundedQueue>(
+    rt: &R,
+    alloc: Global,
+    gate: Q::Gate,
+    row: Row,
+) -> Result<(), CheckFault>
+    requires room { (1 ≤ row.capacity) × (row.capacity ≤ Q.CAPACITY) }
+    requires few { length row.acts.now < check_limit }
+{
+    let made = answers_are::<R, Q>(rt, alloc, gate, row.capacity, row.acts, row.replies)?;
+    leaves(alloc, made, row.acts.len() as u32, row.left)
+}
+
+/// Runs each of the rows of every queue, whose capacities are at most 4, and gives the number of their calls. Where one
+/// was answered otherwise, gives the number of the first such row, with what was amiss.
 pub fn one_seat_rows<R: Wait + Sync, Q: BoundedQueue<Gate = Open>>(
     rt: &R,
     alloc: Global,
-) -> Result<(), (u32, CheckFault)>
+) -> Result<usize, (u32, CheckFault)>
     requires room { 4 ≤ Q.CAPACITY }
 {
     let last = entry(67_108_863, 4_194_303);
@@ -113,11 +139,17 @@ pub fn one_seat_rows<R: Wait + Sync, Q: BoundedQueue<Gate = Open>>(
         ),
     ];
     let mut number = 0;
+    let mut calls = 0_usize;
     for (capacity, acts, replies, left) in rows {
-        answers_are::<R, Q>(rt, alloc, Open, capacity, acts, replies, left).map_err(|fault| (
-            number, fault,
-        ))?;
+        let row = Row {
+            capacity,
+            acts,
+            replies,
+            left,
+        };
+        row_is_answered::<R, Q>(rt, alloc, Open, row).map_err(|fault| (number, fault))?;
         number += 1;
+        calls = calls.saturating_add(acts.len());
     }
-    Ok(())
+    Ok(calls)
 }
