@@ -1,12 +1,20 @@
-//! A call of one seat that is held in the middle of its work, while the other seat's calls all answer.
-ghost use Rattle.std.specs.Prelude.{◌<◌};
+//! A call of the heap that is held in the middle of its work, while the other seat's calls answer or have to wait.
+ghost use Rattle.std.specs.Prelude.{◌<◌, ◌≤◌, ◌+◌, length};
 ghost use Rattle.pq_words.specs.Limits.{key_limit};
+ghost use Rattle.pq_model.specs.Limits.{max_capacity};
+ghost use Rattle.pq_checks.specs.Limits.{check_limit};
 
-use pq_api::Point;
-use pq_checks::{HeldCall, LateHold, Wanted, beside_a_held_call};
+use pq_api::{Point, SharedQueue};
+use pq_checks::{
+    Aside, CheckFault, HeldCall, HeldFault, LateHold, Made, Nothing, Wanted, audited,
+    beside_a_held_call, leaves,
+};
 use pq_hunt::HuntHeap;
-use pq_model::{Act, Reply};
+use pq_model::{Act, Call, Reply};
 use pq_words::Entry;
+use std::alloc::Global;
+use std::sync::Wait;
+use std::thread::Threads;
 
 const TURNS: u32 = 10_000_000;
 
@@ -19,7 +27,11 @@ fn entry(key: u32) -> Entry
 }
 
 fn wanted(act: Act, place: u32, reply: Reply) -> Wanted {
-    Wanted { act, place, reply }
+    Wanted {
+        act,
+        place: Some(place),
+        reply: Some(reply),
+    }
 }
 
 fn insert(key: u32, place: u32) -> Wanted
@@ -34,45 +46,77 @@ fn got(key: u32, place: u32) -> Wanted
     wanted(Act::Remove, place, Reply::Got(entry(key)))
 }
 
+fn got_below(limit: u32, key: u32, place: u32) -> Wanted
+    requires { key < key_limit }
+{
+    wanted(Act::RemoveBelow(limit), place, Reply::Got(entry(key)))
+}
+
+fn above(limit: u32, place: u32) -> Wanted {
+    wanted(Act::RemoveBelow(limit), place, Reply::Above)
+}
+
+// A row whose first seat holds, and whose other seat's calls all answer meanwhile.
+fn row<'a>(before: &'a [Wanted], held: Wanted, beside: &'a [Wanted]) -> HeldCall<'a> {
+    HeldCall {
+        capacity: 16,
+        before,
+        first_is_held: true,
+        held,
+        most: 1,
+        beside,
+        waits: None,
+    }
+}
+
+// How many calls a row has, of which the held one is made once.
+fn calls_of(row: &HeldCall) -> u32
+    requires few { length row.now.before.now + row.now.most + length row.now.beside.now < check_limit }
+{
+    (row.before.len() + row.beside.len() + 1) as u32 + u32::from(row.waits.is_some())
+}
+
+// Runs a row on a heap and closes it: what was amiss with the calls, and then with what is left.
+fn run<R: Threads + Wait + Sync>(
+    rt: &R,
+    alloc: Global,
+    late: &LateHold,
+    row: &HeldCall,
+    left: &[Entry],
+) -> Result<Result<(), CheckFault>, HeldFault>
+    requires room { (2 ≤ row.now.capacity) × (row.now.capacity ≤ max_capacity) }
+    requires few { length row.now.before.now + row.now.most + length row.now.beside.now < check_limit }
+{
+    let (queue, lanes) = beside_a_held_call::<R, HuntHeap<&LateHold>, Nothing>(
+        rt, alloc, late, late, row, &Nothing,
+    )?;
+    let made = Made {
+        queue,
+        pass: lanes.pass,
+    };
+    Ok(leaves(alloc, made, calls_of(row), left))
+}
+
 #[test]
 fn inserts_are_placed_by_removers(rt: HostRuntime) {
     // an empty heap; then one with an entry, where the held insert stands at the last node
-    let rows = [
-        HeldCall {
-            capacity: 4,
-            before: &[],
-            first_is_held: true,
-            held: insert(1, 0),
-            beside: &[got(1, 1)],
-            left: &[],
-        },
-        HeldCall {
-            capacity: 4,
-            before: &[insert(5, 0)],
-            first_is_held: false,
-            held: insert(1, 2),
-            beside: &[got(5, 1)],
-            left: &[entry(1)],
-        },
-        HeldCall {
-            capacity: 4,
-            before: &[],
-            first_is_held: true,
-            held: insert(5, 0),
-            beside: &[wanted(Act::RemoveBelow(3), 1, Reply::Above)],
-            left: &[entry(5)],
-        },
+    let before = [insert(5, 0)];
+    let (one, five, over) = ([got(1, 1)], [got(5, 1)], [above(3, 1)]);
+    let rows: [(HeldCall, &[Entry]); 3] = [
+        (row(&[], insert(1, 0), &one), &[]),
+        (
+            HeldCall {
+                first_is_held: false,
+                ..row(&before, insert(1, 2), &five)
+            },
+            &[entry(1)],
+        ),
+        (row(&[], insert(5, 0), &over), &[entry(5)]),
     ];
-    for row in rows {
+    for (row, left) in rows {
         let late = LateHold::new(Point::HeapBusy, TURNS);
-        let checked = beside_a_held_call::<HostRuntime, HuntHeap<&LateHold>>(
-            &rt,
-            rt.alloc(),
-            &late,
-            &late,
-            &row,
-        );
-        assert_eq!(rt; checked, Ok(()));
+        let row = HeldCall { capacity: 4, ..row };
+        assert_eq!(rt; run(&rt, rt.alloc(), &late, &row, left), Ok(Ok(())));
     }
 }
 
@@ -87,29 +131,233 @@ fn an_insert_is_done_while_a_hole_stands(rt: HostRuntime) {
         insert(6, 5),
         insert(7, 6),
     ];
-    let late = LateHold::new(Point::HeapSift, TURNS);
-    let row = HeldCall {
-        capacity: 16,
-        before: &before,
-        first_is_held: true,
-        held: got(1, 7),
-        beside: &[insert(8, 8)],
-        left: &[
-            entry(2),
-            entry(3),
-            entry(4),
-            entry(5),
-            entry(6),
-            entry(7),
-            entry(8),
-        ],
+    let left = [
+        entry(2),
+        entry(3),
+        entry(4),
+        entry(5),
+        entry(6),
+        entry(7),
+        entry(8),
+    ];
+    for held in [got(1, 7), got_below(2, 1, 7)] {
+        let late = LateHold::new(Point::HeapSift, TURNS);
+        let beside = [insert(8, 8)];
+        let row = row(&before, held, &beside);
+        assert_eq!(rt; run(&rt, rt.alloc(), &late, &row, &left), Ok(Ok(())));
+    }
+}
+
+// The hole of the held removal stands at node 4. Another removal takes the root, and its hole goes to node 3.
+#[test]
+fn removals_go_on_while_a_hole_stands(rt: HostRuntime) {
+    let before = [
+        insert(1, 0),
+        insert(2, 1),
+        insert(3, 2),
+        insert(5, 3),
+        insert(6, 4),
+        insert(7, 5),
+        insert(8, 6),
+    ];
+    let left = [entry(3), entry(5), entry(6), entry(7), entry(8)];
+    let rows = [
+        (got(1, 7), got(2, 9)),
+        (got(1, 7), got_below(3, 2, 9)),
+        (got_below(2, 1, 7), got(2, 9)),
+    ];
+    for (held, other) in rows {
+        let late = LateHold::behind(1, Point::HeapSift, TURNS);
+        let beside = [above(2, 8), other];
+        let row = row(&before, held, &beside);
+        assert_eq!(rt; run(&rt, rt.alloc(), &late, &row, &left), Ok(Ok(())));
+    }
+}
+
+// The hole stands at node 2, and the insert comes to node 4 below it: it has to wait for the hole.
+#[test]
+fn an_insert_waits_for_a_hole_on_its_way(rt: HostRuntime) {
+    let before = [
+        insert(1, 0),
+        insert(2, 1),
+        insert(3, 2),
+        insert(4, 3),
+        insert(5, 4),
+        insert(6, 5),
+        insert(7, 6),
+        insert(8, 7),
+    ];
+    let left = [
+        entry(0),
+        entry(2),
+        entry(3),
+        entry(4),
+        entry(5),
+        entry(6),
+        entry(7),
+        entry(8),
+    ];
+    for held in [got(1, 8), got_below(2, 1, 8)] {
+        let late = LateHold::new(Point::HeapSift, TURNS);
+        let row = HeldCall {
+            waits: Some(insert(0, 9)),
+            ..row(&before, held, &[])
+        };
+        assert_eq!(rt; run(&rt, rt.alloc(), &late, &row, &left), Ok(Ok(())));
+    }
+}
+
+// A removal is made until one is held, which is the second: at the fourth place where a hole has come below the root.
+#[test]
+fn a_call_that_is_held_on_its_way_leaves_a_legal_history(rt: HostRuntime) {
+    let before = [
+        insert(1, 0),
+        insert(2, 1),
+        insert(3, 2),
+        insert(4, 3),
+        insert(5, 4),
+        insert(6, 5),
+        insert(7, 6),
+        insert(8, 7),
+    ];
+    let beside = [Wanted {
+        act: Act::Insert(entry(0)),
+        place: None,
+        reply: Some(DONE),
+    }];
+    let held = Wanted {
+        act: Act::Remove,
+        place: None,
+        reply: None,
     };
-    let checked = beside_a_held_call::<HostRuntime, HuntHeap<&LateHold>>(
+    let late = LateHold::behind(3, Point::HeapSift, TURNS);
+    let row = HeldCall {
+        most: 8,
+        ..row(&before, held, &beside)
+    };
+    let checked = beside_a_held_call::<HostRuntime, HuntHeap<&LateHold>, Nothing>(
         &rt,
         rt.alloc(),
         &late,
         &late,
         &row,
+        &Nothing,
     );
-    assert_eq!(rt; checked, Ok(()));
+    let Ok((queue, lanes)) = checked else {
+        panic!(rt; "a call is held")
+    };
+    let Ok(history) = audited(rt.alloc(), queue, 16, lanes) else {
+        panic!(rt; "the history is legal")
+    };
+    assert_eq!(rt; history.marks.len(), 11);
+    assert_eq!(rt; history.left, 7);
+}
+
+// A look that is to find this many calls.
+#[derive(Drop)]
+struct Finds(u32);
+
+impl<Q: SharedQueue> Aside<Q> for Finds {
+    fn goes<R: Wait + Sync>(&self, _rt: &R, queue: &Q, pass: &mut Q::Pass) -> bool {
+        queue.look(pass) == self.0
+    }
+}
+
+#[test]
+fn what_is_done_besides_is_done_while_a_call_is_held(rt: HostRuntime) {
+    let before = [insert(1, 0), insert(2, 1), insert(3, 2)];
+    for (calls, wanted) in [(4, None), (3, Some(HeldFault::Aside))] {
+        let late = LateHold::new(Point::HeapSift, TURNS);
+        let row = row(&before, got(1, 3), &[]);
+        let checked = beside_a_held_call::<HostRuntime, HuntHeap<&LateHold>, Finds>(
+            &rt,
+            rt.alloc(),
+            &late,
+            &late,
+            &row,
+            &Finds(calls),
+        );
+        assert_eq!(rt; checked.err(), wanted);
+    }
+}
+
+// What was answered otherwise than a wrong row wants.
+fn answered(act: Act, place: u32, reply: Reply) -> Result<Result<(), CheckFault>, HeldFault> {
+    Err(HeldFault::Answer(Call { place, act, reply }))
+}
+
+#[test]
+fn the_check_finds_what_is_amiss(rt: HostRuntime) {
+    let before = [insert(1, 0), insert(2, 1), insert(3, 2)];
+    let two = [entry(2), entry(3)];
+    let (late_insert, early_removal) = ([insert(1, 1)], [got(1, 0)]);
+    let busy = row(&[], insert(1, 0), &[]);
+    let sift = row(&before, got(1, 3), &[]);
+    let rows = [
+        // other answers of a call before, of the held one and of one beside it
+        (
+            row(&late_insert, insert(2, 1), &[]),
+            Point::HeapBusy,
+            answered(Act::Insert(entry(1)), 0, DONE),
+        ),
+        (
+            row(&[], insert(1, 1), &[]),
+            Point::HeapBusy,
+            answered(Act::Insert(entry(1)), 0, DONE),
+        ),
+        (
+            row(&before, got(2, 3), &[]),
+            Point::HeapSift,
+            answered(Act::Remove, 3, Reply::Got(entry(1))),
+        ),
+        (
+            row(&[], insert(1, 0), &early_removal),
+            Point::HeapBusy,
+            answered(Act::Remove, 1, Reply::Got(entry(1))),
+        ),
+        // other entries left
+        (busy, Point::HeapBusy, Ok(Err(CheckFault::Left))),
+        // a call that has to wait for nothing
+        (
+            HeldCall {
+                waits: Some(above(2, 4)),
+                ..sift
+            },
+            Point::HeapSift,
+            Err(HeldFault::Early),
+        ),
+        (sift, Point::HeapSift, Ok(Ok(()))),
+    ];
+    for (row, point, wanted) in rows {
+        let late = LateHold::new(point, TURNS);
+        assert_eq!(rt; run(&rt, rt.alloc(), &late, &row, &two), wanted);
+    }
+}
+
+// No call comes to the point; and a call that has to wait for the held one is said to answer beside it.
+#[test]
+fn the_check_ends_by_its_turns(rt: HostRuntime) {
+    let before = [
+        insert(1, 0),
+        insert(2, 1),
+        insert(3, 2),
+        insert(4, 3),
+        insert(5, 4),
+        insert(6, 5),
+        insert(7, 6),
+        insert(8, 7),
+    ];
+    let none = row(&before, above(1, 8), &[]);
+    let late = LateHold::new(Point::HeapSift, 1_000);
+    assert_eq!(rt;
+        run(&rt, rt.alloc(), &late, &none, &[]),
+        Err(HeldFault::NotHeld)
+    );
+    let beside = [insert(0, 9)];
+    let waits = row(&before, got(1, 8), &beside);
+    let late = LateHold::new(Point::HeapSift, 1_000_000);
+    assert_eq!(rt;
+        run(&rt, rt.alloc(), &late, &waits, &[]),
+        Err(HeldFault::Spent)
+    );
 }

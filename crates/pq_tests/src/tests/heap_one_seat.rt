@@ -1,13 +1,13 @@
 //! The heap with one seat, under the checks of every queue.
 use pq_api::Open;
-use pq_checks::{against_a_list, one_seat_rows, sorted};
+use pq_checks::{against_a_list, leaves, one_seat_rows, sorted};
 use pq_hunt::HuntHeap;
 use pq_words::Entry;
 
 #[test]
 fn rows_are_answered(rt: HostRuntime) {
     let checked = one_seat_rows::<HostRuntime, HuntHeap<Open>>(&rt, rt.alloc());
-    assert_eq!(rt; checked, Ok(()));
+    assert_eq!(rt; checked, Ok(31));
 }
 
 #[test]
@@ -18,10 +18,12 @@ fn drawn_calls_are_answered_as_a_list_answers(rt: HostRuntime) {
             rt.alloc(),
             Open,
             capacity,
+            capacity,
             seed,
             calls,
         );
-        assert_eq!(rt; checked, Ok(()));
+        let (made, held) = checked.expect(&rt, "all are answered so");
+        assert_eq!(rt; leaves(rt.alloc(), made, calls, &held), Ok(()));
     }
 }
 
