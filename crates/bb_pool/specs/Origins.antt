@@ -7,10 +7,11 @@ use Rattle.std.specs.List.{IsDistinct}
 use Rattle.bb_problem.specs.Tree.{below}
 use Rattle.bb_problem.specs.Meaning.{Meaning}
 use Rattle.bb_problem.specs.Expanding.{StandBelow}
-use Rattle.bb_shared.specs.declared.store.stored.Draw.{Draw}
+use Rattle.pq_numbers.specs.declared.draws.Draw.{Draw}
 use Rattle.bb_shared.specs.declared.store.stored.Numbered.{Numbered}
 use Rattle.bb_shared.specs.declared.store.stored.Stored.{Stored}
-use Rattle.bb_shared.specs.Stores.{times, times_drawn}
+use Rattle.bb_shared.specs.Stores.{times}
+use Rattle.pq_numbers.specs.Draws.{times_drawn}
 use Rattle.bb_pool.specs.Costs.{is_better}
 use Rattle.bb_pool.specs.Working.{kept_of}
 

@@ -9,7 +9,7 @@ use Rattle.pq_model.specs.declared.passes.Lane.{Lane}
 use Rattle.pq_model.specs.declared.passes.Known.{Known}
 use Rattle.pq_model.specs.Passes.{call, lanes, numbers, fresh, Knows}
 use Rattle.bb_problem.specs.Meaning.{Meaning}
-use Rattle.bb_shared.specs.declared.store.stored.Draw.{Draw}
+use Rattle.pq_numbers.specs.declared.draws.Draw.{Draw}
 use Rattle.bb_shared.specs.declared.store.stored.Numbered.{Numbered}
 use Rattle.bb_shared.specs.declared.store.stored.Stored.{Stored}
 use Rattle.bb_shared.specs.declared.control.told.Told.{Told}

@@ -8,7 +8,7 @@ use Rattle.bb_problem.specs.declared.step.Step.{Step}
 use Rattle.bb_problem.specs.Meaning.{Meaning}
 use Rattle.bb_problem.specs.Expanding.{IsExpanded}
 use Rattle.bb_shared.specs.declared.control.stop.Stop.{Stop}
-use Rattle.bb_shared.specs.declared.store.stored.Draw.{Draw}
+use Rattle.pq_numbers.specs.declared.draws.Draw.{Draw}
 use Rattle.bb_shared.specs.declared.store.stored.Numbered.{Numbered}
 use Rattle.bb_shared.specs.declared.store.stored.Stored.{Stored}
 use Rattle.bb_shared.specs.Costs.{IsLower}

@@ -1,22 +1,21 @@
 -- Each step of a control keeps the rule of its table.
-use Rattle.std.proofs.Common.{◌≡◌, ◌≢◌, ℕ, zero, suc, ◌+◌, ◌-◌, ◌/◌, ◌%◌, ◌^◌, ◌<◌, ◌≤◌, eqb, List, [], ◌∷◌, ◌++◌, get_or, set, max, replicate, sym, refl, ap, ◌∙◌, subst, inl, inr, ⊎_elim, arith, length-set, get_or-set_same, get_or-set_other}
+use Rattle.std.proofs.Common.{◌≡◌, ◌≢◌, ℕ, suc, ◌+◌, ◌-◌, ◌/◌, ◌%◌, ◌^◌, ◌<◌, ◌≤◌, eqb, List, [], ◌∷◌, ◌++◌, get_or, set, max, replicate, sym, refl, ap, ◌∙◌, subst, inl, inr, ⊎_elim, arith, length-set, get_or-set_same, get_or-set_other}
 use Rattle.std.specs.Prelude.{Contains, Some, None, Option, sum_by}
 use Rattle.std.proofs.lemmas.List.{set-get_or}
-use Rattle.std.proofs.lemmas.List.Sums.{sum_by_push}
 use Rattle.std.proofs.lemmas.List.Elements.{Contains-push, Contains-append_left, Contains-append_right}
-use mathlib.Core.Option.{some, none, some-injective, some-ne-none}
+use mathlib.Core.Option.{some, none}
 use mathlib.Core.Logic.{dite}
 use native.Mathlib.Decide.{ℕ_discrete, dec_le}
 use lib.ListN.{get_elem?}
 use Rattle.atomic_table.specs.Table.{State, Me, Act, Valid, carried_after, step, keeps, stepped, Allows, Splits, Joins, opening}
-use Rattle.atomic_table.proofs.Lists.{at_snoc, at_longer, set_else, exchanged}
+use Rattle.atomic_table.proofs.Lists.{at_longer, set_else, exchanged}
 use prog.Atomic.{either}
 use Rattle.bb_shared.specs.declared.control.stop.Stop.{Stop}
 use Rattle.bb_shared.specs.declared.control.told.Told.{Told}
 use Rattle.bb_shared.specs.Costs.{IsLower}
 use Rattle.bb_shared.specs.Controls.{with_cost, with_opened, with_closed, with_load, or_else, controls_joined, cost_in, stop_word, stop_in, IsTellable, IsLeftOpen, IsStopped, IsStopSet, KnowsControl}
 use Rattle.bb_shared.specs.ControlRules.{rank, word_of, parts_in, opened_in, closed_in, IsUnheard, FitsControl, TellsBest, TellsStop, IsControl, teller, gave_one, got_one, spent_told, opened_more, closed_one, saw_open, saw_best, told_cost, set_stop, saw_stop, learned}
-use Rattle.bb_shared.proofs.Sums.{sum_set, sum_kept, two-le-sum, sum_alone, here, one_at, each_set}
+use Rattle.pq_numbers.proofs.Sums.{sum_set, sum_kept, two-le-sum, sum_alone, sum_split, sum_joined, here, one_at, one_view, at_before, each_set, each_split, each_joined}
 use Rattle.bb_shared.proofs.Costs.{lower_both, rank_lesser, small_lesser, small_cost, rank_cost, rank-le, cost_rank, low_rank, stop_word-positive, stop_in_word_of, one_stop, place_fits, none_or_some}
 
 -- A view that changes goes on telling what it told
@@ -49,10 +48,6 @@ stopped_by stops (Some x) empty there = there x refl
 first_of_two : (a b first : Option Stop) (known : Stop) → ((x : Stop) → a ≡ Some x → first ≡ Some x) → ((x : Stop) → b ≡ Some x → first ≡ Some x) → or_else a b ≡ Some known → first ≡ Some known
 first_of_two None b first known fa fb e = fb known e
 first_of_two (Some x) b first known fa fb e = fa known e
-
-one_view : {V : Type 0} (v : V) (j : ℕ) (u : V) → get_elem? (v ∷ []) j ≡ some u → v ≡ u
-one_view v zero u e = some-injective v u e
-one_view v (suc j) u e = absurd (some-ne-none u (sym e))
 
 -- a seat that has told nothing
 fresh_fits : (k seats parts best : ℕ) (first : Option Stop) → (0 < parts → seats ≡ k) → FitsControl k best first (teller seats parts)
@@ -343,7 +338,7 @@ module _ {S : Type 0} (k : ℕ) where
   deals id seats parts s h at =
       let v : Told = teller seats (suc parts) in let l : Told = gave_one v in let r : Told = got_one v in
       let f = h.each id v at in
-      let split : (g : Told → ℕ) → g l + g r ≡ g v → sum_by g (set s.views id l ++ r ∷ []) ≡ sum_by g s.views = λ g is. let a = sum_set g s.views id v l at in let b = sum_by_push g (set s.views id l) r in omega arith in
+      let split : (g : Told → ℕ) → g l + g r ≡ g v → sum_by g (set s.views id l ++ r ∷ []) ≡ sum_by g s.views = λ g. sum_split g s.views id v l r at in
       record {
         wide = h.wide;
         parts = split parts_in (omega arith) ∙ h.parts;
@@ -353,20 +348,19 @@ module _ {S : Type 0} (k : ℕ) where
         stop = h.stop;
         tellable = h.tellable;
         told = λ x is. let t' = stop_set s.views id v l x at (λ has. has) (h.told x is) in record { j = t'.j; view = t'.view; at = at_longer (set s.views id l) (r ∷ []) t'.j t'.view t'.at; has = t'.has };
-        each = λ j u there. ⊎_elim
-            (λ t. each_set (FitsControl k (get_or s.words 16 0) h.first) s.views id l (fresh_fits k seats (suc parts - 1) (get_or s.words 16 0) h.first (λ z. f.whole (omega arith))) h.each j u t)
-            (λ t. subst (FitsControl k (get_or s.words 16 0) h.first) t (fresh_fits k seats 1 (get_or s.words 16 0) h.first (λ z. f.whole (omega arith))))
-            (at_snoc (set s.views id l) r u j there);
+        each = each_split (FitsControl k (get_or s.words 16 0) h.first) s.views id l r
+            (fresh_fits k seats (suc parts - 1) (get_or s.words 16 0) h.first (λ z. f.whole (omega arith)))
+            (fresh_fits k seats 1 (get_or s.words 16 0) h.first (λ z. f.whole (omega arith)))
+            h.each;
       }
 
   -- A seat takes in another, which is spent
   pub joins : (id other : ℕ) (v w : Told) → 0 < v.parts → Joins (IsControl {S = S} k) id v other w (controls_joined v w) spent_told
   joins id other v w some_part s h at apart to =
       let b : Told = controls_joined v w in let spent : Told = spent_told in
-      let before : get_elem? s.views other ≡ some w = sym (set_else s.views id other b apart) ∙ to in
+      let before = at_before s.views id other b w apart to in
       let f = h.each id v at in let g = h.each other w before in
-      let both : (m : Told → ℕ) → m b ≡ m v + m w → m spent ≡ 0 → sum_by m (set (set s.views id b) other spent) ≡ sum_by m s.views = λ m is none.
-      let x = sum_set m s.views id v b at in let y = sum_set m (set s.views id b) other w spent to in omega arith in
+      let both : (m : Told → ℕ) → m b ≡ m v + m w → m spent ≡ 0 → sum_by m (set (set s.views id b) other spent) ≡ sum_by m s.views = λ m. sum_joined m s.views id other v w b spent at to in
       let at_b : get_elem? (set (set s.views id b) other spent) id ≡ some b = set_else (set s.views id b) other id spent (λ e. apart (sym e)) ∙ here s.views id v b at in
       let else_at : (j : ℕ) (u : Told) → get_elem? s.views j ≡ some u → j ≢ id → j ≢ other → get_elem? (set (set s.views id b) other spent) j ≡ some u = λ j u there ne ne'. set_else (set s.views id b) other j spent ne' ∙ (set_else s.views id j b ne ∙ there) in
       let own : rank b.own ≡ max (rank v.own) (rank w.own) = rank_lesser v.own w.own in
@@ -389,8 +383,7 @@ module _ {S : Type 0} (k : ℕ) where
             (λ ne. dite (ℕ_discrete t.j other)
             (λ e. let is : t.view ≡ w = one_at s.views other t.view w (subst (λ (z : ℕ). get_elem? s.views z ≡ some t.view) e t.at) before in record { j = id; view = b; at = at_b; has = Contains-append_right v.stops w.stops x (subst (λ (u : Told). Contains u.stops x) is t.has) })
             (λ ne'. record { j = t.j; view = t.view; at = else_at t.j t.view t.at ne ne'; has = t.has }));
-        each = each_set (FitsControl k (get_or s.words 16 0) h.first) (set s.views id b) other spent (fresh_fits k 0 0 (get_or s.words 16 0) h.first (λ z. absurd (omega arith)))
-            (each_set (FitsControl k (get_or s.words 16 0) h.first) s.views id b
+        each = each_joined (FitsControl k (get_or s.words 16 0) h.first) s.views id other b spent
             (record {
               idle = λ z. absurd (omega arith);
               whole = λ z. f.whole some_part;
@@ -401,7 +394,8 @@ module _ {S : Type 0} (k : ℕ) where
               first_is = λ known e. first_of_two v.first w.first h.first known f.first_is g.first_is e;
               stops = λ e. ap (λ (z : List Stop). z ++ w.stops) (f.stops e) ∙ g.stops e;
             })
-            h.each);
+            (fresh_fits k 0 0 (get_or s.words 16 0) h.first (λ z. absurd (omega arith)))
+            h.each;
       }
 
   -- The rule holds where nothing is told and one seat has all parts

@@ -7,8 +7,9 @@ use Rattle.bb_shared.specs.declared.store.drawn.Drawn.TheVariants.{First, Over}
 use Rattle.bb_shared.specs.declared.store.stored.Numbered.{Numbered}
 use Rattle.bb_shared.specs.declared.store.stored.Stored.{Stored}
 use Rattle.bb_shared.specs.declared.store.stored.StoreView.{StoreView}
-use Rattle.bb_shared.specs.Stores.{numbered, draw_of, with_draw, with_put, IsDrawn}
-use Rattle.bb_shared.specs.StoreRules.{store_view}
+use Rattle.pq_numbers.specs.Draws.{draw_of}
+use Rattle.bb_shared.specs.Stores.{numbered, with_draw, IsDrawn}
+use Rattle.bb_shared.specs.StoreRules.{having_put}
 
 pub replicate-snoc : {A : Type 0} (n : ℕ) (x : A) → replicate n x ++ x ∷ [] ≡ replicate (n + 1) x
 replicate-snoc zero x = refl
@@ -38,8 +39,8 @@ module _ {N : Type 0} where
   rewritten m now v x o written l is none w = w ∙ (ap (λ (z : Hand N). seat_of z.0 ((x, written) ∷ rest z.1)) is ∙ ap (λ (z : List (ℕ × Option N)). seat_of v ((x, written) ∷ z)) none)
 
   -- and given back
-  pub put_done : (m now : Hand N) (v : StoreView N) (x : ℕ) (node : N) → m ≡ (v, (x, Some node) ∷ []) → now ≡ (store_view (with_put m.0.kept (numbered x node)) None, []) → now ≡ (store_view (with_put v.kept (numbered x node)) None, [])
-  put_done m now v x node is done = done ∙ ap (λ (z : Hand N). seat_of (store_view (with_put z.0.kept (numbered x node)) None) []) is
+  pub put_done : (m now : Hand N) (v : StoreView N) (x : ℕ) (node : N) → m ≡ (v, (x, Some node) ∷ []) → now ≡ (having_put m.0 (numbered x node), []) → now ≡ (having_put v (numbered x node), [])
+  put_done m now v x node is done = done ∙ ap (λ (z : Hand N). seat_of (having_put z.0 (numbered x node)) []) is
 
   pub take_done : (m now : Hand N) (v : StoreView N) (x : ℕ) → m ≡ (v, (x, None) ∷ []) → now ≡ (m.0, rest m.1) → now ≡ (v, [])
   take_done m now v x is done = done ∙ ap (λ (z : Hand N). seat_of z.0 (rest z.1)) is

@@ -1,11 +1,10 @@
 -- What follows from the definitions of the store and of the control.
-use Rattle.std.specs.Prelude.{ℕ, ◌≡◌, ◌≢◌, ◌+◌, ◌-◌, ◌<◌, ◌≤◌, List, Contains, slice_get, Some}
+use Rattle.std.specs.Prelude.{ℕ, ◌≡◌, ◌≢◌, ◌+◌, ◌-◌, ◌<◌, ◌≤◌, Some}
 use Rattle.bb_problem.specs.Limits.{cost_limit}
 use Rattle.bb_shared.specs.declared.control.stop.Stop.{Stop}
 use Rattle.bb_shared.specs.declared.store.drawn.Drawn.TheVariants.{First}
-use Rattle.bb_shared.specs.declared.store.stored.Draw.{Draw}
 use Rattle.bb_shared.specs.declared.store.stored.Stored.{Stored}
-use Rattle.bb_shared.specs.Stores.{numbered, with_put, HasNoOver, IsDrawn, IsFree, AreTiled, drawn_in_all}
+use Rattle.bb_shared.specs.Stores.{numbered, with_put, HasNoOver, IsDrawn, IsFree}
 use Rattle.bb_shared.specs.Controls.{cost_in, stop_word, stop_in}
 
 -- the seat may put under each number that it has just drawn
@@ -22,20 +21,6 @@ FirstMayDrawAgain N = (before now : Stored N) (o count limit : ℕ)
 abbrev pub OthersStayFree : Type 0 → Type 0
 OthersStayFree N = (s : Stored N) (number other : ℕ) (node : N)
     → IsFree s number → number ≢ other → IsFree (with_put s (numbered other node)) number
-
--- the number is one of the draw's
-abbrev pub IsIn : ℕ → Draw → Type 0
-IsIn number d = (d.first ≤ number) × (number < d.first + d.count)
-
--- no number is in two of the draws
-abbrev pub DrawsAreApart : Type 0
-DrawsAreApart = (draws : List Draw) (i j number : ℕ) (d e : Draw) → AreTiled draws
-    → slice_get draws i ≡ Some d → slice_get draws j ≡ Some e → IsIn number d → IsIn number e → i ≡ j
-
--- and each number below the sum of the counts is in one
-abbrev pub DrawsCover : Type 0
-DrawsCover = (draws : List Draw) (number : ℕ) → AreTiled draws → number < drawn_in_all draws
-    → (d : Draw) × Contains draws d × IsIn number d
 
 -- the best word tells the cost
 abbrev pub CostsAreTold : Type 0

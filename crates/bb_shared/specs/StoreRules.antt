@@ -2,20 +2,22 @@
 -- Word 0, the made word, counts the numbers that were drawn. Word x + 1 says how far the number x is: 0 none, 1
 -- putting, 2 full, 3 taking, 4 done. Slot x holds the node of the number x.
 use Rattle.std.specs.Prelude.{ℕ, zero, suc, ◌≡◌, ◌≢◌, ◌+◌, ◌-◌, ◌*◌, ◌^◌, ◌<◌, ◌≤◌, ◌==◌}
-use Rattle.std.specs.Prelude.{not, nat_lt, nat_le, if◌then◌else◌}
-use Rattle.std.specs.Prelude.{List, [], ◌∷◌, length, Contains, count_by, sum_by, slice_index, Option, Some, None}
+use Rattle.std.specs.Prelude.{not, nat_le, if◌then◌else◌}
+use Rattle.std.specs.Prelude.{List, [], ◌∷◌, ◌++◌, length, Contains, count_by, sum_by, slice_index, Option, Some, None}
 use mathlib.Core.Option.{some}
 use lib.ListN.{get_elem?}
 use Rattle.atomic_table.specs.Table.{State, Me, Step, rest}
 use Rattle.pq_model.specs.Limits.{max_seats}
 use Rattle.bb_problem.specs.Limits.{max_children}
-use Rattle.bb_shared.specs.declared.store.stored.Draw.{Draw}
+use Rattle.pq_numbers.specs.declared.draws.Draw.{Draw}
+use Rattle.pq_numbers.specs.Draws.{draw_of, times_drawn}
+use Rattle.pq_numbers.specs.Tables.{Kind, AreDrawn, AreTold}
 use Rattle.bb_shared.specs.declared.store.stored.Numbered.{Numbered}
 use Rattle.bb_shared.specs.declared.store.stored.Stored.{Stored}
 use Rattle.bb_shared.specs.declared.store.stored.StoreView.{StoreView}
 use Rattle.bb_shared.specs.Limits.{asked_limit}
-use Rattle.bb_shared.specs.Stores.{numbered, draw_of, new_stored, stores_joined, with_draw, with_put, with_take}
-use Rattle.bb_shared.specs.Stores.{times, times_drawn, drawn_in_all, KnowsStore}
+use Rattle.bb_shared.specs.Stores.{full_word, numbered, attempt, new_stored, stores_joined, with_draw, with_put, with_take}
+use Rattle.bb_shared.specs.Stores.{times, KnowsStore}
 
 -- 1 where a number's word says that its node is being put
 abbrev pub is_putting : ℕ → ℕ
@@ -45,11 +47,8 @@ abbrev pub times_over : List Draw → ℕ
 times_over = count_by (λ (d : Draw). not d.within)
 
 module _ {N : Type 0} where
-  abbrev pub parts_by : StoreView N → ℕ
-  parts_by v = v.kept.parts
-
-  abbrev pub count_drawn_by : StoreView N → ℕ
-  count_drawn_by v = drawn_in_all v.kept.draws
+  abbrev pub store_kind : Kind (StoreView N)
+  store_kind = record { parts = λ v. v.kept.parts; draws = λ v. v.kept.draws }
 
   abbrev pub over_by : StoreView N → ℕ
   over_by v = times_over v.kept.draws
@@ -68,7 +67,6 @@ module _ {N : Type 0} where
 
   -- the view of a seat that was joined into another, and of one that gave all its parts away
   pub record IsIdle (v : StoreView N) : Type 0 where
-    pub draws : v.kept.draws ≡ []
     pub puts : v.kept.puts ≡ []
     pub takes : v.kept.takes ≡ []
     pub putting : v.putting ≡ None
@@ -83,47 +81,53 @@ module _ {N : Type 0} where
     pub puts : (p : Numbered N) → Contains v.kept.puts p → node_of p.number ≡ Some p.node
     pub takes : (p : Numbered N) → Contains v.kept.takes p → node_of p.number ≡ Some p.node
 
-  -- The parts add up to all seats. The draws of all views together are disjoint and are all numbers below the made
-  -- word. Each number's word tells how often it was put and taken by all. Each number has one node, which lies in its
+  -- The seats draw each number below the made word once. Each number's word tells how often it was put and taken by all. Each number has one node, which lies in its
   -- slot while its word is full.
   pub record IsStore (seats : ℕ) (s : State (Option N) (StoreView N)) : Type 0 where
     pub few : seats ≤ max_seats
     pub wide : length s.words ≡ suc (length s.homes)
-    pub parts : sum_by parts_by s.views ≡ seats
-    pub made : slice_index s.words 0 ≡ sum_by count_drawn_by s.views
+    pub numbers : AreDrawn store_kind seats (slice_index s.words 0) s.views
     pub bounded : slice_index s.words 0 ≤ 2 ^ 32 + max_children * sum_by over_by s.views
-    pub drawn : (x : ℕ) → sum_by (drawn_by x) s.views ≡ (if nat_lt x (slice_index s.words 0) then 1 else 0)
-    pub putting : (x : ℕ) → sum_by (putting_by x) s.views ≡ is_putting (slice_index s.words (suc x))
-    pub put : (x : ℕ) → sum_by (put_by x) s.views ≡ is_put (slice_index s.words (suc x))
-    pub taken : (x : ℕ) → sum_by (taken_by x) s.views ≡ is_taken (slice_index s.words (suc x))
+    pub putting : AreTold putting_by is_putting (λ x. suc x) s.words s.views
+    pub put : AreTold put_by is_put (λ x. suc x) s.words s.views
+    pub taken : AreTold taken_by is_taken (λ x. suc x) s.words s.views
     pub node_of : ℕ → Option N
     pub each : (j : ℕ) (v : StoreView N) → get_elem? s.views j ≡ some v
         → FitsStore seats (slice_index s.words 0) node_of v
     pub empty : (x : ℕ) → x < length s.homes → slice_index s.words (suc x) ≡ 0 → get_elem? s.homes x ≡ some (some None)
-    pub full : (x : ℕ) → slice_index s.words (suc x) ≡ 2 → get_elem? s.homes x ≡ some (some (node_of x))
-
-  abbrev pub store_view : Stored N → Option ℕ → StoreView N
-  store_view kept putting = record { kept = kept; putting = putting }
+    pub full : (x : ℕ) → slice_index s.words (suc x) ≡ full_word → get_elem? s.homes x ≡ some (some (node_of x))
 
   -- the view of the first seat, which has all parts and gives them to the others
   abbrev pub giver : ℕ → ℕ → StoreView N
-  giver seats parts = store_view (record (new_stored seats) { parts = parts }) None
+  giver seats parts = record { kept = record (new_stored seats) { parts = parts }; putting = None; attempts = [] }
 
   -- the view after one part was given away, and the view of the seat that got it
   abbrev pub given_one : StoreView N → StoreView N
   given_one v = giver v.kept.seats (v.kept.parts - 1)
 
   abbrev pub one_part : StoreView N → StoreView N
-  one_part v = store_view (new_stored v.kept.seats) None
+  one_part v = record { kept = new_stored v.kept.seats; putting = None; attempts = [] }
+
+  abbrev pub with_kept : StoreView N → Stored N → StoreView N
+  with_kept v kept = record v { kept = kept }
 
   abbrev pub views_joined : StoreView N → StoreView N → StoreView N
-  views_joined v w = store_view (stores_joined v.kept w.kept) v.putting
+  views_joined v w = with_kept v (stores_joined v.kept w.kept)
 
   abbrev pub spent_view : StoreView N
   spent_view = giver 0 0
 
-  abbrev pub with_kept : StoreView N → Stored N → StoreView N
-  with_kept v kept = store_view kept v.putting
+  abbrev pub with_putting : StoreView N → ℕ → StoreView N
+  with_putting v x = record v { putting = Some x }
+
+  abbrev pub having_put : StoreView N → Numbered N → StoreView N
+  having_put v p = record v { kept = with_put v.kept p; putting = None }
+
+  abbrev pub having_tried : StoreView N → ℕ → ℕ → StoreView N
+  having_tried v x word = record v { attempts = v.attempts ++ attempt x word ∷ [] }
+
+  abbrev pub having_taken : StoreView N → Numbered N → StoreView N
+  having_taken v p = having_tried (with_kept v (with_take v.kept p)) p.number full_word
 
 -- What each step tells.
 module _ {N : Type 0} (st : Step (Option N)) (m : Me (Option N) (StoreView N)) (found : ℕ)
@@ -137,20 +141,19 @@ module _ {N : Type 0} (st : Step (Option N)) (m : Me (Option N) (StoreView N)) (
 
   -- the number had no node, and its slot is the seat's
   abbrev pub began_put : Type 0
-  began_put = (x : ℕ) → st.word ≡ suc x → w ≡ (store_view m.0.kept (Some x), (x, None) ∷ m.1)
+  began_put = (x : ℕ) → st.word ≡ suc x → w ≡ (with_putting m.0 x, (x, None) ∷ m.1)
 
   -- the slot was given back with the node
   abbrev pub ended_put : Type 0
   ended_put = (x : ℕ) (node : N) → st.word ≡ suc x → m.1 ≡ (x, Some node) ∷ [] →
-      (w ≡ (store_view (with_put m.0.kept (numbered x node)) None, [])) × KnowsStore st.slots w.0.kept
+      (w ≡ (having_put m.0 (numbered x node), [])) × KnowsStore st.slots w.0.kept
 
-  -- the slot is the seat's with the node that was in it, or else nothing was done
+  -- the slot is the seat's with the node that was in it, or else the word that was read was not full
   abbrev pub tried_take : Type 0
   tried_take = (x : ℕ) → st.word ≡ suc x →
-      (found ≡ 2 → (node : N)
-      × (w ≡ (with_kept m.0 (with_take m.0.kept (numbered x node)), (x, Some node) ∷ m.1))
+      (found ≡ full_word → (node : N) × (w ≡ (having_taken m.0 (numbered x node), (x, Some node) ∷ m.1))
       × KnowsStore st.slots w.0.kept)
-      × (found ≢ 2 → w ≡ m)
+      × (found ≢ full_word → w ≡ (having_tried m.0 x found, m.1))
 
   -- the slot was given back
   abbrev pub ended_take : Type 0

@@ -1,10 +1,12 @@
 -- What a seat of a store keeps, and what it knows once all seats are joined into it.
-use Rattle.std.specs.Prelude.{ℕ, ◌≡◌, ◌+◌, ◌<◌, ◌≤◌, ◌==◌, ◌&&◌, nat_lt, nat_le, if◌then◌else◌, Bool, true, false, max}
-use Rattle.std.specs.Prelude.{List, [], ◌∷◌, ◌++◌, length, Contains, count_by, sum_by}
+use Rattle.std.specs.Prelude.{ℕ, ◌≡◌, ◌≢◌, ◌⊎◌, ◌+◌, ◌<◌, ◌≤◌, true, false, max}
+use Rattle.std.specs.Prelude.{List, [], ◌∷◌, ◌++◌, length, Contains}
 use Rattle.atomic_table.specs.Seated.{TableId}
+use Rattle.pq_numbers.specs.declared.draws.Draw.{Draw}
+use Rattle.pq_numbers.specs.Draws.{draw_of, times_of, AreTiled}
 use Rattle.bb_shared.specs.declared.store.drawn.Drawn.{Drawn}
 use Rattle.bb_shared.specs.declared.store.drawn.Drawn.TheVariants.{First, Over}
-use Rattle.bb_shared.specs.declared.store.stored.Draw.{Draw}
+use Rattle.bb_shared.specs.declared.store.stored.Attempt.{Attempt}
 use Rattle.bb_shared.specs.declared.store.stored.Numbered.{Numbered}
 use Rattle.bb_shared.specs.declared.store.stored.Stored.{Stored}
 use Rattle.bb_shared.specs.Limits.{asked_limit}
@@ -13,16 +15,21 @@ use Rattle.bb_shared.specs.Limits.{asked_limit}
 abbrev pub nodes_of : TableId → ℕ
 nodes_of store = store.slots
 
--- what contracts see of a seat: the table of its store, and what it keeps
+-- what contracts see of a seat: the table of its store, what it keeps, and its attempts to take a node
 pub record StoreSeated (N : Type 0) : Type 0 where
   pub store : TableId
   pub kept : Stored N
+  pub attempts : List Attempt
+
+-- the word of a number whose node is there to take
+abbrev pub full_word : ℕ
+full_word = 2
 
 abbrev pub numbered : {N : Type 0} → ℕ → N → Numbered N
 numbered number node = record { number = number; node = node }
 
-abbrev pub draw_of : ℕ → ℕ → Bool → Draw
-draw_of first count within = record { first = first; count = count; within = within }
+abbrev pub attempt : ℕ → ℕ → Attempt
+attempt number word = record { number = number; word = word }
 
 -- what a seat keeps that has done nothing, one of so many
 abbrev pub new_stored : {N : Type 0} → ℕ → Stored N
@@ -30,7 +37,7 @@ new_stored seats = record { seats = seats; parts = 1; draws = []; puts = []; tak
 
 -- the new seats of a store
 abbrev pub new_store_seat : {N : Type 0} → TableId → ℕ → StoreSeated N
-new_store_seat store seats = record { store = store; kept = new_stored seats }
+new_store_seat store seats = record { store = store; kept = new_stored seats; attempts = [] }
 
 abbrev pub with_draw : {N : Type 0} → Stored N → Draw → Stored N
 with_draw s d = record s { draws = s.draws ++ d ∷ []; front = d.first + d.count }
@@ -75,21 +82,18 @@ pub record IsFree {N : Type 0} (s : Stored N) (number : ℕ) : Type 0 where
   pub to : number < draw.first + draw.count
   pub unput : (p : Numbered N) → Contains s.puts p → p.number ≡ number → ⊥
 
+-- No node was there to take: the number is not one of the store's, or its word was read, and was not full. The seat
+-- keeps what it kept.
+abbrev pub IsMissed : {N : Type 0} → ℕ → StoreSeated N → ℕ → StoreSeated N → Type 0
+IsMissed nodes before number now = ((nodes ≤ number) × (now ≡ before))
+    ⊎ ((word : ℕ) × (word ≢ full_word) × (now ≡ record before { attempts = before.attempts ++ attempt number word ∷ [] }))
+
+abbrev pub number_of : {N : Type 0} → Numbered N → ℕ
+number_of p = p.number
+
 -- how many of the list have this number
 abbrev pub times : {N : Type 0} → ℕ → List (Numbered N) → ℕ
-times {N} x = count_by (λ (p : Numbered N). p.number == x)
-
--- in how many of the draws this number is
-abbrev pub times_drawn : ℕ → List Draw → ℕ
-times_drawn x = count_by (λ (d : Draw). nat_le d.first x && nat_lt x (d.first + d.count))
-
--- how many numbers were drawn in all
-abbrev pub drawn_in_all : List Draw → ℕ
-drawn_in_all = sum_by (λ (d : Draw). d.count)
-
--- the numbers below the sum of the counts are in one draw each, and no others are in any
-abbrev pub AreTiled : List Draw → Type 0
-AreTiled draws = (x : ℕ) → times_drawn x draws ≡ (if nat_lt x (drawn_in_all draws) then 1 else 0)
+times {N} = times_of (number_of {N = N})
 
 -- Each node that was taken is the one that was put under its number, and no two were put under one.
 pub record AreMatched {N : Type 0} (puts takes : List (Numbered N)) : Type 0 where

@@ -1,6 +1,7 @@
 //! Laws of what seats keep, and of the control's words.
 ghost use Rattle.bb_shared.specs.Laws.{DrawnAreFree, FirstMayDrawAgain, OthersStayFree};
-ghost use Rattle.bb_shared.specs.Laws.{DrawsAreApart, DrawsCover, CostsAreTold, StopsAreTold};
+ghost use Rattle.bb_shared.specs.Laws.{CostsAreTold, StopsAreTold};
+ghost use Rattle.pq_numbers.specs.Draws.{DrawsAreApart, DrawsCover};
 
 /// Law: a seat may put under each number that it has just drawn.
 pub fn drawn_numbers_are_free<N>()

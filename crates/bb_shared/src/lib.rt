@@ -14,4 +14,5 @@ pub use laws::{
     joined_draws_cover, other_numbers_stay_free, stops_are_told,
 };
 pub use limits::MAX_NODES;
-pub use store::{Draw, Drawn, Numbered, Store, StoreSeat, Stored};
+pub use pq_numbers::Draw;
+pub use store::{Attempt, Drawn, Numbered, Store, StoreSeat, Stored};

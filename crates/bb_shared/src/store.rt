@@ -7,4 +7,4 @@ mod stored;
 
 pub use drawn::Drawn;
 pub use nodes::{Store, StoreSeat};
-pub use stored::{Draw, Numbered, Stored};
+pub use stored::{Attempt, Numbered, Stored};

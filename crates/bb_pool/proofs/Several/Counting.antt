@@ -10,7 +10,7 @@ use Rattle.pq_model.specs.declared.passes.Known.{Known}
 use Rattle.pq_model.specs.Passes.{call, lanes, with_call, joined_with}
 use Rattle.bb_problem.specs.Tree.{total}
 use Rattle.bb_shared.specs.declared.store.stored.Numbered.{Numbered}
-use Rattle.bb_shared.specs.declared.store.stored.Draw.{Draw}
+use Rattle.pq_numbers.specs.declared.draws.Draw.{Draw}
 use Rattle.bb_shared.specs.declared.store.stored.Stored.{Stored}
 use Rattle.bb_shared.specs.declared.control.told.Told.{Told}
 use Rattle.bb_shared.specs.Stores.{KnowsStore, with_draw, with_put, with_take}

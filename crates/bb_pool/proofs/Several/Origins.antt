@@ -14,8 +14,9 @@ use Rattle.bb_problem.specs.Meaning.{Meaning, IsLawful}
 use Rattle.bb_problem.specs.Expanding.{StandBelow}
 use Rattle.bb_shared.specs.declared.store.stored.Numbered.{Numbered}
 use Rattle.bb_shared.specs.declared.store.stored.Stored.{Stored}
-use Rattle.bb_shared.specs.Stores.{numbered, draw_of, with_draw, with_put, with_take, stores_joined, new_stored}
-use Rattle.bb_shared.proofs.Counts.{times-cons, times-push, times-append, times_drawn-push, times_drawn-append, in_draw, one_if, same_one, other_none}
+use Rattle.bb_shared.specs.Stores.{numbered, number_of, with_draw, with_put, with_take, stores_joined, new_stored}
+use Rattle.pq_numbers.specs.Draws.{draw_of}
+use Rattle.pq_numbers.proofs.Counts.{times-cons, times-push, times-append, times_drawn-push, times_drawn-append, in_draw, one_if, same_one, other_none}
 use Rattle.bb_pool.specs.Costs.{is_better}
 use Rattle.bb_pool.specs.Working.{Waiting, kept_of}
 use Rattle.bb_pool.specs.Origins.{Origin, IsOrigin, IsChildOf, is_drawn, HasOrigins, IsAmongOrigins, kept_parts, AreLeftOf}
@@ -92,7 +93,7 @@ module _ {N L : Type 0} {m : Meaning N L} {root : Option ℕ} where
     taken = λ o has. Contains-append_left s.takes (p ∷ []) o.parent (t.taken o has);
     still = λ q there. Contains-append_right s.takes (p ∷ []) q there;
     drawn = t.drawn;
-    once = λ x. let a = t.once x in let b = times-push x s.takes p in let c = times-cons x p [] in omega arith;
+    once = λ x. let a = t.once x in let b = times-push number_of x s.takes p in let c = times-cons number_of x p [] in omega arith;
     put = t.put;
   }
 
@@ -126,7 +127,7 @@ module _ {N L : Type 0} {m : Meaning N L} {root : Option ℕ} where
       ];
       still = λ q there. absurd (none_in_empty q there);
       drawn = λ x. let a = t.drawn x in let b = times_drawn-push x s.draws o.draw in let c = count_push (λ (z : Origin N). is_drawn x z.draw) t.origins o in omega arith;
-      once = λ x. let a = t.once x in let b = times-cons x o.parent [] in let c = count_push (λ (z : Origin N). z.parent.number == x) t.origins o in omega arith;
+      once = λ x. let a = t.once x in let b = times-cons number_of x o.parent [] in let c = count_push (λ (z : Origin N). z.parent.number == x) t.origins o in omega arith;
       put = λ p there. elim (t.put p there) [ inl r ↦ inl r | inr q ↦ inr (q.0, Contains-append_left t.origins (o ∷ []) q.0 q.1, q.2) ];
     };
     has = Contains-append_right t.origins (o ∷ []) o (Contains-here o []);
@@ -161,7 +162,7 @@ module _ {N L : Type 0} {m : Meaning N L} {root : Option ℕ} where
     ];
     still = λ q there. absurd (none_in_empty q there);
     drawn = λ x. let p = a.drawn x in let q = b.drawn x in let d = times_drawn-append x s.draws t.draws in let c = count_append (λ (z : Origin N). is_drawn x z.draw) a.origins b.origins in omega arith;
-    once = λ x. let p = a.once x in let q = b.once x in let d = times-append x s.takes t.takes in let c = count_append (λ (z : Origin N). z.parent.number == x) a.origins b.origins in omega arith;
+    once = λ x. let p = a.once x in let q = b.once x in let d = times-append number_of x s.takes t.takes in let c = count_append (λ (z : Origin N). z.parent.number == x) a.origins b.origins in omega arith;
     put = λ p there. elim (Contains-append_cases s.puts t.puts p there) [
       | inl x ↦ elim (a.put p x) [ inl r ↦ inl r | inr q ↦ inr (q.0, Contains-append_left a.origins b.origins q.0 q.1, q.2) ]
       | inr y ↦ elim (b.put p y) [ inl r ↦ absurd (let e = r.0 in cc) | inr q ↦ inr (q.0, Contains-append_right a.origins b.origins q.0 q.1, q.2) ]

@@ -9,12 +9,13 @@ use Rattle.pq_model.specs.declared.passes.Known.{Known}
 use Rattle.pq_model.specs.Passes.{lanes, numbers, fresh, joined_with, Knows, IsApart}
 use Rattle.pq_model.proofs.Fronts.{Witnesses-fresh}
 use Rattle.bb_problem.specs.Meaning.{Meaning}
-use Rattle.bb_shared.specs.declared.store.stored.Draw.{Draw}
+use Rattle.pq_numbers.specs.declared.draws.Draw.{Draw}
 use Rattle.bb_shared.specs.declared.store.stored.Stored.{Stored}
 use Rattle.bb_shared.specs.declared.control.told.Told.{Told}
 use Rattle.bb_shared.specs.declared.control.stop.Stop.{Stop}
 use Rattle.bb_shared.specs.declared.control.stop.Stop.TheVariants as stops
-use Rattle.bb_shared.specs.Stores.{KnowsStore, numbered, draw_of, with_draw, stores_joined, new_stored, new_store_seat}
+use Rattle.bb_shared.specs.Stores.{KnowsStore, numbered, with_draw, stores_joined, new_stored, new_store_seat}
+use Rattle.pq_numbers.specs.Draws.{draw_of}
 use Rattle.bb_shared.specs.Controls.{IsStopSet, IsStopRead, or_else, controls_joined, new_told, new_control_seat}
 use Rattle.pq_model.specs.declared.marks.Act.TheVariants.{Insert}
 use Rattle.pq_model.specs.declared.marks.Reply.TheVariants.{Done}

@@ -11,11 +11,12 @@ use Rattle.std.proofs.lemmas.List.Elements.{All-get_or, All-from_recursion}
 use Rattle.bb_problem.specs.Limits.{size_limit}
 use Rattle.bb_problem.specs.Tree.{below}
 use Rattle.bb_problem.specs.Meaning.{Meaning, IsLawful}
-use Rattle.bb_shared.specs.declared.store.stored.Draw.{Draw}
+use Rattle.pq_numbers.specs.declared.draws.Draw.{Draw}
 use Rattle.bb_shared.specs.declared.store.stored.Numbered.{Numbered}
 use Rattle.bb_shared.specs.declared.store.stored.Stored.{Stored}
-use Rattle.bb_shared.specs.Stores.{KnowsStore, times_drawn, drawn_in_all}
-use Rattle.bb_shared.proofs.Counts.{one_if, other_none, times_drawn-contains, none_counted}
+use Rattle.bb_shared.specs.Stores.{KnowsStore}
+use Rattle.pq_numbers.specs.Draws.{times_drawn, drawn_in_all}
+use Rattle.pq_numbers.proofs.Counts.{one_if, other_none, times_drawn-contains, none_counted}
 use Rattle.bb_pool.specs.Searching.{name_at}
 use Rattle.bb_pool.specs.Numbers.{AreNames}
 use Rattle.bb_pool.specs.Origins.{Origin, IsChildOf, is_drawn, roots_at, HasOrigins}

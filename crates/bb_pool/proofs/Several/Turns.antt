@@ -11,12 +11,13 @@ use Rattle.bb_problem.specs.declared.step.Step.{Step}
 use Rattle.bb_problem.specs.Meaning.{Meaning, IsLawful}
 use Rattle.bb_problem.specs.Expanding.{StandBelow, IsExpanded}
 use Rattle.bb_shared.specs.declared.store.stored.Numbered.{Numbered}
-use Rattle.bb_shared.specs.declared.store.stored.Draw.{Draw}
+use Rattle.pq_numbers.specs.declared.draws.Draw.{Draw}
 use Rattle.bb_shared.specs.declared.store.stored.Stored.{Stored}
 use Rattle.bb_shared.specs.declared.control.told.Told.{Told}
 use Rattle.bb_shared.specs.declared.control.stop.Stop.{Stop}
 use Rattle.bb_shared.specs.declared.control.stop.Stop.TheVariants.{Full, NodeLimit}
-use Rattle.bb_shared.specs.Stores.{numbered, draw_of, with_draw, with_take, IsFree, KnowsStore}
+use Rattle.bb_shared.specs.Stores.{numbered, with_draw, with_take, IsFree, KnowsStore}
+use Rattle.pq_numbers.specs.Draws.{draw_of}
 use Rattle.bb_shared.specs.Controls.{IsRead, IsClosed, with_opened, with_closed}
 use Rattle.bb_pool.specs.declared.child.Child.{Child}
 use Rattle.bb_pool.specs.Costs.{is_better, limit_of}

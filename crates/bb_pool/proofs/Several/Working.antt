@@ -14,9 +14,10 @@ use Rattle.bb_problem.specs.declared.step.Step.TheVariants.{Leaf}
 use Rattle.bb_problem.specs.Expanding.{StandBelow, IsExpanded}
 use Rattle.bb_shared.specs.Costs.{IsLower, lesser}
 use Rattle.bb_shared.specs.declared.store.stored.Numbered.{Numbered}
-use Rattle.bb_shared.specs.declared.store.stored.Draw.{Draw}
+use Rattle.pq_numbers.specs.declared.draws.Draw.{Draw}
 use Rattle.bb_shared.specs.declared.store.stored.Stored.{Stored}
-use Rattle.bb_shared.specs.Stores.{numbered, draw_of, with_draw, with_put, with_take, stores_joined, HasNoOver}
+use Rattle.bb_shared.specs.Stores.{numbered, with_draw, with_put, with_take, stores_joined, HasNoOver}
+use Rattle.pq_numbers.specs.Draws.{draw_of}
 use Rattle.bb_shared.specs.declared.control.told.Told.{Told}
 use Rattle.bb_shared.specs.Controls.{cut_of, with_cost, IsRead, controls_joined}
 use Rattle.bb_pool.specs.declared.found.Found.{Found}

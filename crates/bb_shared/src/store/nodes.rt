@@ -8,7 +8,7 @@ ghost use Rattle.bb_problem.specs.Limits.{max_children};
 ghost use Rattle.bb_shared.specs.Limits.{max_nodes};
 ghost use Rattle.bb_shared.specs.Stores.{nodes_of, StoreSeated, new_store_seat, numbered};
 ghost use Rattle.bb_shared.specs.Stores.{with_put, with_take, stores_joined};
-ghost use Rattle.bb_shared.specs.Stores.{HasNoOver, IsDrawn, IsFree, KnowsStore};
+ghost use Rattle.bb_shared.specs.Stores.{HasNoOver, IsDrawn, IsFree, IsMissed, KnowsStore};
 ghost use Rattle.bb_shared.specs.StoreRules.{giver, drew};
 
 use super::drawn::Drawn;
@@ -46,7 +46,8 @@ impl<N> Model for Store<N> {
 
 /// What a caller holds, to draw, put and take with.
 ///
-/// Contracts see the table of its store and what the seat keeps: its draws, its puts and its takes.
+/// Contracts see the table of its store, what the seat keeps, which is its draws, its puts and its takes, and its
+/// attempts to take a node.
 #[derive(Drop)]
 pub struct StoreSeat<N> {
     seat: StoreHand<N>,
@@ -58,7 +59,11 @@ impl<N> Model for StoreSeat<N> {
 
     ghost Value = { StoreSeated N };
 
-    ghost view = { λ s. record { store = s.seat.table_id; kept = s.seat.me.0.kept } };
+    ghost view = { λ s. record {
+      store = s.seat.table_id;
+      kept = s.seat.me.0.kept;
+      attempts = s.seat.me.0.attempts;
+    } };
 
     ghost invariant = { λ s. (s.seat.me.1 ≡ []) × (s.seat.me.0.putting ≡ None) × (0 < s.seat.me.0.kept.parts) };
 }
@@ -198,13 +203,15 @@ impl<N: Drop> Store<N> {
         unreachable!()
     }
 
-    /// The same without waiting: `None` where no node stands at the number.
+    /// The same without waiting: `None` where no node stands at the number. The number is then not below `nodes`, or
+    /// its word was read and was not full.
     pub(crate) fn try_take(&self, seat: &mut StoreSeat<N>, number: u32) -> Option<N>
         requires own { seat.old.store ≡ self.now }
         ensures own { seat.new.store ≡ seat.old.store }
         ensures taken { IfSome result (λ node. seat.new.kept ≡ with_take seat.old.kept (numbered number node)) }
         ensures knows { IfSome result (λ node. KnowsStore (nodes_of self.now) seat.new.kept) }
         ensures same { IfNone result (seat.new.kept ≡ seat.old.kept) }
+        ensures missed { IfNone result (IsMissed (nodes_of self.now) seat.old number seat.new) }
     {
         let slot = number as usize;
         if slot >= self.table.slot_count() {

@@ -1,4 +1,5 @@
 //! What a seat of a store keeps. No program makes a value of these types: contracts speak of them.
+use pq_numbers::Draw;
 use std::collections::LinkedList;
 
 /// A node and its number.
@@ -7,12 +8,10 @@ pub struct Numbered<N> {
     pub node: N,
 }
 
-/// The numbers from `first` on, so many, and whether they were within the limit.
-#[derive(Clone, Copy)]
-pub struct Draw {
-    pub first: u64,
-    pub count: u32,
-    pub within: bool,
+/// A number, and what its word was where a seat tried to take the number's node.
+pub struct Attempt {
+    pub number: u32,
+    pub word: u64,
 }
 
 /// What a seat keeps: how many seats the store has, and how many of them are this one; its draws, its puts and its
@@ -26,8 +25,10 @@ pub struct Stored<N> {
     pub front: u64,
 }
 
-/// The view of a seat: what it keeps, and the number under which it is about to put a node.
+/// The view of a seat: what it keeps, the number under which it is about to put a node, and its attempts to take one,
+/// in order.
 pub struct StoreView<N> {
     pub kept: Stored<N>,
     pub putting: Option<u32>,
+    pub attempts: LinkedList<Attempt>,
 }

@@ -1,4 +1,4 @@
-use Rattle.bb_shared.proofs.Draws.{may_draw_again}
+use Rattle.bb_shared.proofs.Free.{may_draw_again}
 use Rattle.bb_shared.proofs.laws.first_may_draw_again.Goals as goal
 
 pub returns : goal.returns

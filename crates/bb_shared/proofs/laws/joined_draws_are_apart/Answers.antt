@@ -1,4 +1,4 @@
-use Rattle.bb_shared.proofs.Draws.{apart}
+use Rattle.pq_numbers.proofs.Tiles.{apart}
 use Rattle.bb_shared.proofs.laws.joined_draws_are_apart.Goals as goal
 
 pub returns : goal.returns

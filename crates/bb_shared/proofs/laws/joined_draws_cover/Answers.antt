@@ -1,4 +1,4 @@
-use Rattle.bb_shared.proofs.Draws.{cover}
+use Rattle.pq_numbers.proofs.Tiles.{cover}
 use Rattle.bb_shared.proofs.laws.joined_draws_cover.Goals as goal
 
 pub returns : goal.returns

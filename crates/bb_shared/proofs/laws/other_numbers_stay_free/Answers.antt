@@ -1,4 +1,4 @@
-use Rattle.bb_shared.proofs.Draws.{stays_free}
+use Rattle.bb_shared.proofs.Free.{stays_free}
 use Rattle.bb_shared.proofs.laws.other_numbers_stay_free.Goals as goal
 
 pub returns : goal.returns

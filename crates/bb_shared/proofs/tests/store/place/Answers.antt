@@ -1,6 +1,6 @@
 use Rattle.std.proofs.Common.{sym, subst, arith}
 use Rattle.bb_shared.specs.Stores.{HasNoOver}
-use Rattle.bb_shared.proofs.Draws.{drawn_free, may_draw_again}
+use Rattle.bb_shared.proofs.Free.{drawn_free, may_draw_again}
 use Rattle.bb_shared.proofs.tests.store.place.Goals as goal
 
 pub put-requires-clause-free : goal.put-requires-clause-free

@@ -1,6 +1,6 @@
 use Rattle.std.proofs.Common.{◌≡◌, List, sym, subst, arith, mod-lt}
 use Rattle.std.specs.Prelude.{Contains, true}
-use Rattle.bb_shared.specs.declared.store.stored.Draw.{Draw}
+use Rattle.pq_numbers.specs.declared.draws.Draw.{Draw}
 use Rattle.bb_shared.proofs.tests.store.work.Goals as goal
 
 pub loop-turn-preserved : goal.loop-turn-preserved

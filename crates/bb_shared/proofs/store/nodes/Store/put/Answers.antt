@@ -3,7 +3,7 @@ use Rattle.std.proofs.Common.{◌<◌, ap, ◌∙◌, sym, subst, refl, arith, S
 use Rattle.atomic_table.specs.Seated.{TableId}
 use Rattle.bb_shared.specs.declared.store.stored.Stored.{Stored}
 use Rattle.bb_shared.specs.Stores.{StoreSeated, IsFree, KnowsStore, with_put, numbered}
-use Rattle.bb_shared.specs.StoreRules.{store_view}
+use Rattle.bb_shared.specs.StoreRules.{with_putting}
 use Rattle.bb_shared.proofs.StoreSeats.{Hand, has_slot, was_held, rewritten, put_done}
 use Rattle.bb_shared.proofs.StoreSteps.{begins_put, ends_put}
 use Rattle.bb_shared.proofs.store.nodes.Store.put.Goals as goal
@@ -33,7 +33,7 @@ store-requires g c =
     let wide = c.self.invariant in let size = ap (λ (z : TableId). z.slots) c.self.view_is in let within = c.requires.within in (
       c.exchange.ensures.0 ∙ (c.compare_exchange.ensures.0 ∙ (ap (λ (z : StoreSeated g.row.N.Denot). z.store) c.seat.view_is ∙ (c.requires.own ∙ sym c.self.view_is))),
       omega arith,
-      ends_put c.self.inside.table.shared.key _ c.exchange.new.seat.id c.args.number c.exchange.new.seat.me (store_view c.seat.inside.seat.me.0.kept (Some c.args.number)) c.args.node c.seat.invariant.2 refl (omega arith)
+      ends_put c.self.inside.table.shared.key _ c.exchange.new.seat.id c.args.number c.exchange.new.seat.me (with_putting c.seat.inside.seat.me.0 c.args.number) c.args.node c.seat.invariant.2 refl (omega arith)
           (rewritten c.compare_exchange.new.seat.me c.exchange.new.seat.me _ c.args.number None (Some c.args.node) _ (c.compare_exchange.ensures.2 c.args.number (omega arith)) c.seat.invariant.0 c.exchange.ensures.3),
     )
 

@@ -1,51 +1,13 @@
--- What follows of draws.
-use Rattle.std.proofs.Common.{◌≡◌, ◌≢◌, ℕ, zero, suc, ◌+◌, ◌<◌, ◌≤◌, List, [], ◌∷◌, Some, sym, refl, ap, ◌∙◌, subst, ⊎_elim, arith, Bool, true, false, ltb}
+-- What follows of draws that are tiled.
+use Rattle.std.proofs.Common.{◌≡◌, ℕ, zero, suc, ◌+◌, ◌<◌, ◌≤◌, List, [], ◌∷◌, Some, refl, ap, arith, Bool, ltb}
 use Rattle.std.specs.Prelude.{Contains, slice_get, ◌&&◌}
 use Rattle.std.proofs.lemmas.Bool.{lt-ltb, le-ltb, le-leb, lt-leb}
-use Rattle.std.specs.Cmp.Derive.{both_true}
 use Rattle.std.proofs.lemmas.List.Sums.{sum_by-cons}
-use Rattle.std.proofs.lemmas.List.Elements.{Contains-push, Contains-push_cases}
 use mathlib.Core.Logic.{dite}
 use native.Mathlib.Decide.{ℕ_discrete, dec_lt, dec_le}
-use Rattle.bb_shared.specs.declared.store.drawn.Drawn.TheVariants.{First}
-use Rattle.bb_shared.specs.declared.store.stored.Draw.{Draw}
-use Rattle.bb_shared.specs.declared.store.stored.Numbered.{Numbered}
-use Rattle.bb_shared.specs.declared.store.stored.Stored.{Stored}
-use Rattle.bb_shared.specs.Stores.{numbered, draw_of, with_put, HasNoOver, IsDrawn, IsFree, AreTiled, drawn_in_all, times_drawn}
-use Rattle.bb_shared.specs.Laws.{IsIn}
-use Rattle.bb_shared.proofs.Counts.{one_if, in_draw}
-
-module _ {N : Type 0} where
-  pub drawn_free : (before now : Stored N) (o count limit number : ℕ) → IsDrawn before count limit (First o) now → o ≤ number → number < o + count → IsFree now number
-  drawn_free before now o count limit number drawn from to =
-      let d : Draw = draw_of o count true in let low = drawn.2 in
-      subst (λ (s : Stored N). IsFree s number) (sym drawn.3) (record {
-        draw = d;
-        drawn = Contains-push before.draws d;
-        good = refl;
-        from = from;
-        to = to;
-        unput = λ p c e. let lt = low p c in absurd (omega arith);
-      })
-
-  pub may_draw_again : (before now : Stored N) (o count limit : ℕ) → HasNoOver before → IsDrawn before count limit (First o) now → HasNoOver now
-  may_draw_again before now o count limit under drawn e has = ⊎_elim
-      (λ t. under e t)
-      (λ t. ap (λ (z : Draw). z.within) (sym t))
-      (Contains-push_cases before.draws (draw_of o count true) e (subst (λ (s : Stored N). Contains s.draws e) drawn.3 has))
-
-  pub stays_free : (s : Stored N) (number other : ℕ) (node : N) → IsFree s number → number ≢ other → IsFree (with_put s (numbered other node)) number
-  stays_free s number other node free ne = record {
-    draw = free.draw;
-    drawn = free.drawn;
-    good = free.good;
-    from = free.from;
-    to = free.to;
-    unput = λ p c e. ⊎_elim (λ t. free.unput p t e) (λ t. ne (sym e ∙ ap (λ (z : Numbered N). z.number) (sym t))) (Contains-push_cases s.puts (numbered other node) p c);
-  }
-
-in_one : (number : ℕ) (d : Draw) → IsIn number d → in_draw number d ≡ 1
-in_one number d is = ap one_if (both_true (le-leb d.first number is.0) (lt-ltb number (d.first + d.count) is.1))
+use Rattle.pq_numbers.specs.declared.draws.Draw.{Draw}
+use Rattle.pq_numbers.specs.Draws.{IsIn, drawn_in_all, times_drawn, DrawsAreApart, DrawsCover}
+use Rattle.pq_numbers.proofs.Counts.{one_if, one_if-le, in_draw, in_one}
 
 one_drawn : (draws : List Draw) (i number : ℕ) (d : Draw) → slice_get draws i ≡ Some d → IsIn number d → 0 < times_drawn number draws
 one_drawn [] i number d at is = absurd (cc)
@@ -60,11 +22,7 @@ once_apart (x ∷ xs) zero (suc j) number d e once at to is is' = let same : x �
 once_apart (x ∷ xs) (suc i) zero number d e once at to is is' = let same : x ≡ e = cc in let a = ap (in_draw number) same in let b = in_one number e is' in let c = sum_by-cons (in_draw number) x xs in let r = one_drawn xs i number d at is in absurd (omega arith)
 once_apart (x ∷ xs) (suc i) (suc j) number d e once at to is is' = let c = sum_by-cons (in_draw number) x xs in ap suc (once_apart xs i j number d e (omega arith) at to is is')
 
-one_if-le : (b : Bool) → one_if b ≤ 1
-one_if-le true = omega arith
-one_if-le false = omega arith
-
-pub apart : (draws : List Draw) (i j number : ℕ) (d e : Draw) → AreTiled draws → slice_get draws i ≡ Some d → slice_get draws j ≡ Some e → IsIn number d → IsIn number e → i ≡ j
+pub apart : DrawsAreApart
 apart draws i j number d e tiled = once_apart draws i j number d e (let a = tiled number in let b = one_if-le (ltb number (drawn_in_all draws)) in omega arith)
 
 -- a draw with this number
@@ -86,5 +44,5 @@ found (x ∷ xs) number more = let c = sum_by-cons (in_draw number) x xs in dite
     (λ e. let r = found xs number (omega arith) in let there = r.within in record { draw = r.draw; within = (suc there.0, (let within = there.1 in omega arith), there.2); is = r.is })
     (λ ne. record { draw = x; within = (0, omega arith, refl); is = in_some number x (omega arith) })
 
-pub cover : (draws : List Draw) (number : ℕ) → AreTiled draws → number < drawn_in_all draws → (d : Draw) × Contains draws d × IsIn number d
+pub cover : DrawsCover
 cover draws number tiled low = let a = tiled number in let b = ap one_if (lt-ltb number (drawn_in_all draws) low) in let r = found draws number (omega arith) in (r.draw, r.within, r.is)

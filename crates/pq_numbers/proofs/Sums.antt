@@ -1,12 +1,12 @@
 -- Sums over the views of a table, and what holds of each view after one has changed.
-use Rattle.std.proofs.Common.{◌≡◌, ◌≢◌, ℕ, zero, suc, ◌+◌, ◌<◌, ◌≤◌, List, [], ◌∷◌, set, sym, refl, ap, ◌∙◌, subst, ⊎_elim, arith}
+use Rattle.std.proofs.Common.{◌≡◌, ◌≢◌, ℕ, zero, suc, ◌+◌, ◌<◌, ◌≤◌, List, [], ◌∷◌, ◌++◌, set, sym, refl, ap, ◌∙◌, subst, ⊎_elim, arith}
 use Rattle.std.specs.Prelude.{sum_by}
-use Rattle.std.proofs.lemmas.List.Sums.{sum_by-cons}
+use Rattle.std.proofs.lemmas.List.Sums.{sum_by-cons, sum_by_push}
 use mathlib.Core.Option.{some, some-injective, some-ne-none}
 use mathlib.Core.Logic.{dite}
 use native.Mathlib.Decide.{ℕ_discrete}
 use lib.ListN.{get_elem?}
-use Rattle.atomic_table.proofs.Lists.{at_set}
+use Rattle.atomic_table.proofs.Lists.{at_set, at_snoc, set_else}
 
 module _ {A : Type 0} where
   pub sum_set : (f : A → ℕ) (l : List A) (i : ℕ) (v w : A) → get_elem? l i ≡ some v → sum_by f (set l i w) + f v ≡ sum_by f l + f w
@@ -70,3 +70,26 @@ module _ {A : Type 0} where
   two-le-sum f (x ∷ xs) zero (suc j) v w e d n = let is : f x ≡ f v = ap f (some-injective x v e) in let r = one-le-sum f xs j w d in omega (arith, sum_by-cons f x xs)
   two-le-sum f (x ∷ xs) (suc i) zero v w e d n = let is : f x ≡ f w = ap f (some-injective x w d) in let r = one-le-sum f xs i v e in omega (arith, sum_by-cons f x xs)
   two-le-sum f (x ∷ xs) (suc i) (suc j) v w e d n = let r = two-le-sum f xs i j v w e d (λ q. n (ap suc q)) in omega (arith, sum_by-cons f x xs)
+
+  -- the one view of a table that opens
+  pub one_view : (v : A) (j : ℕ) (u : A) → get_elem? (v ∷ []) j ≡ some u → v ≡ u
+  one_view v zero u e = some-injective v u e
+  one_view v (suc j) u e = absurd (some-ne-none u (sym e))
+
+  -- a view was cut in two
+  pub sum_split : (f : A → ℕ) (l : List A) (i : ℕ) (v left right : A) → get_elem? l i ≡ some v → f left + f right ≡ f v → sum_by f (set l i left ++ right ∷ []) ≡ sum_by f l
+  sum_split f l i v left right e is = let a = sum_set f l i v left e in let b = sum_by_push f (set l i left) right in omega arith
+
+  pub each_split : (P : A → Type 0) (l : List A) (i : ℕ) (left right : A) → P left → P right → ((j : ℕ) (u : A) → get_elem? l j ≡ some u → P u) → (j : ℕ) (u : A) → get_elem? (set l i left ++ right ∷ []) j ≡ some u → P u
+  each_split P l i left right at_left at_right old j u at = ⊎_elim (λ t. each_set P l i left at_left old j u t) (λ t. subst P t at_right) (at_snoc (set l i left) right u j at)
+
+  -- the view that a seat takes in was there before
+  pub at_before : (l : List A) (i j : ℕ) (both w : A) → j ≢ i → get_elem? (set l i both) j ≡ some w → get_elem? l j ≡ some w
+  at_before l i j both w apart to = sym (set_else l i j both apart) ∙ to
+
+  -- a view took in another, which is spent
+  pub sum_joined : (f : A → ℕ) (l : List A) (i j : ℕ) (v w both spent : A) → get_elem? l i ≡ some v → get_elem? (set l i both) j ≡ some w → f both ≡ f v + f w → f spent ≡ 0 → sum_by f (set (set l i both) j spent) ≡ sum_by f l
+  sum_joined f l i j v w both spent at to is none = let a = sum_set f l i v both at in let b = sum_set f (set l i both) j w spent to in omega arith
+
+  pub each_joined : (P : A → Type 0) (l : List A) (i j : ℕ) (both spent : A) → P both → P spent → ((h : ℕ) (u : A) → get_elem? l h ≡ some u → P u) → (h : ℕ) (u : A) → get_elem? (set (set l i both) j spent) h ≡ some u → P u
+  each_joined P l i j both spent at_both at_spent old = each_set P (set l i both) j spent at_spent (each_set P l i both at_both old)
