@@ -1,2 +1,3 @@
--- The small problem of some tests.
+-- The small problems of some tests.
 pub mod Picks
+pub mod Alike

@@ -1,0 +1,2 @@
+-- What the tests owe the calls that they make.
+pub mod Alike
