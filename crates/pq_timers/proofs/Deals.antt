@@ -48,6 +48,7 @@ fresh_fits limits own parts word moment_of whole = record {
   was_fired = λ t c. let lt = c.1 in absurd (omega arith);
   arming = λ t is. absurd (none_some t is);
   stored = λ t is z. absurd (none_some t is);
+  set = λ ne. absurd (ne refl);
   read = λ ne. absurd (ne refl);
 }
 
@@ -119,6 +120,7 @@ module _ {S : Type 0} (limits : TimerLimits) where
               was_fired = λ t c. ⊎_elim (f.was_fired t) (g.was_fired t) (Contains-append_cases v.kept.was_fired w.kept.was_fired t c);
               arming = f.arming;
               stored = f.stored;
+              set = f.set;
               read = f.read;
             })
             (fresh_fits limits (record { seats = 0; timers = 0 }) 0 word h.moment_of (λ z. absurd (omega arith)))

@@ -1,6 +1,6 @@
 -- What a seat has between the steps of its calls.
-use Rattle.std.proofs.Common.{◌≡◌, ◌≢◌, ℕ, zero, suc, ◌+◌, ◌-◌, ◌<◌, ◌≤◌, Bool, cond, List, [], ◌∷◌, ◌++◌, Some, None, replicate, refl, ap, ◌∙◌, subst, sym, inl, inr, ⊎_elim, arith}
-use Rattle.std.specs.Prelude.{Contains}
+use Rattle.std.proofs.Common.{◌≡◌, ◌≢◌, ℕ, zero, suc, ◌+◌, ◌-◌, ◌<◌, ◌≤◌, Bool, cond, List, [], ◌∷◌, ◌++◌, Some, None, replicate, eqb, eq-eqb, ne_eqb, refl, ap, ◌∙◌, subst, sym, inl, inr, ⊎_elim, arith}
+use Rattle.std.specs.Prelude.{Contains, MatchBool}
 use Rattle.std.proofs.lemmas.Bool.{lt-ltb, le-ltb}
 use Rattle.std.proofs.lemmas.List.Elements.{Contains-push_cases, Contains-append_cases}
 use mathlib.Core.Logic.{dite}
@@ -11,7 +11,7 @@ use Rattle.pq_timers.specs.declared.ticket.Ticket.{Ticket}
 use Rattle.pq_timers.specs.declared.words.kept.Kept.{Kept}
 use Rattle.pq_timers.specs.declared.words.kept.TimerLimits.{TimerLimits}
 use Rattle.pq_timers.specs.declared.words.kept.TimerView.{TimerView}
-use Rattle.pq_timers.specs.Words.{ticket, with_armed, with_refused, with_moment, with_state, kept_joined, looked, answer_of, IsCancel}
+use Rattle.pq_timers.specs.Words.{ticket, with_armed, with_refused, with_moment, with_state, with_fired, firing, kept_joined, looked, answer_of, IsCancel, HasWaited, IsFired, IsDropped}
 use Rattle.pq_timers.specs.WordRules.{AreTimers, drawn_view, with_kept, read_ticket, cancelling}
 
 abbrev pub Hand : Type 0
@@ -57,13 +57,35 @@ rests_on m w k rests = (
   λ t c. let a = rests.3 t (subst (λ (ts : List Ticket). Contains ts t) k.armed c) in let b = ap (λ (l : TimerLimits). l.timers) k.limits in omega arith,
 )
 
-pub refused_keeps : (m w : Hand) (t : Ticket) (found : ℕ) → (found ≡ 1 → w ≡ (with_kept m.0 (with_refused (with_state m.0.kept found) t), m.1)) → (found ≢ 1 → w ≡ (with_kept m.0 (with_state m.0.kept found), m.1)) → KeepsSeat m w
+pub refused_keeps : (m w : Hand) (t : Ticket) (found : ℕ) → (found ≡ 1 → w ≡ (with_kept m.0 (with_refused (with_state m.0.kept t.number found) t), m.1)) → (found ≢ 1 → w ≡ (with_kept m.0 (with_state m.0.kept t.number found), m.1)) → KeepsSeat m w
 refused_keeps m w t found hit miss = dite (ℕ_discrete found 1)
     (λ e. let is = hit e in record { hands = ap (λ (z : Hand). z.1) is; arming = ap (λ (z : Hand). z.0.arming) is; parts = ap (λ (z : Hand). z.0.kept.parts) is; limits = ap (λ (z : Hand). z.0.kept.limits) is; armed = ap (λ (z : Hand). z.0.kept.armed) is })
     (λ ne. let is = miss ne in record { hands = ap (λ (z : Hand). z.1) is; arming = ap (λ (z : Hand). z.0.arming) is; parts = ap (λ (z : Hand). z.0.kept.parts) is; limits = ap (λ (z : Hand). z.0.kept.limits) is; armed = ap (λ (z : Hand). z.0.kept.armed) is })
 
 pub seen_keeps : (m w : Hand) (number found : ℕ) → w ≡ (with_kept m.0 (with_moment m.0.kept number found), m.1) → KeepsSeat m w
 seen_keeps m w number found is = record { hands = ap (λ (z : Hand). z.1) is; arming = ap (λ (z : Hand). z.0.arming) is; parts = ap (λ (z : Hand). z.0.kept.parts) is; limits = ap (λ (z : Hand). z.0.kept.limits) is; armed = ap (λ (z : Hand). z.0.kept.armed) is }
+
+pub state_keeps : (m w : Hand) (number found : ℕ) → w ≡ (with_kept m.0 (with_state m.0.kept number found), m.1) → KeepsSeat m w
+state_keeps m w number found is = record { hands = ap (λ (z : Hand). z.1) is; arming = ap (λ (z : Hand). z.0.arming) is; parts = ap (λ (z : Hand). z.0.kept.parts) is; limits = ap (λ (z : Hand). z.0.kept.limits) is; armed = ap (λ (z : Hand). z.0.kept.armed) is }
+
+pub fired_keeps : (m w : Hand) (t : Ticket) (at found : ℕ) → (found ≡ 1 → w ≡ (with_kept m.0 (with_fired (with_state m.0.kept t.number found) (firing t at)), m.1)) → (found ≢ 1 → w ≡ (with_kept m.0 (with_state m.0.kept t.number found), m.1)) → KeepsSeat m w
+fired_keeps m w t at found hit miss = dite (ℕ_discrete found 1)
+    (λ e. let is = hit e in record { hands = ap (λ (z : Hand). z.1) is; arming = ap (λ (z : Hand). z.0.arming) is; parts = ap (λ (z : Hand). z.0.kept.parts) is; limits = ap (λ (z : Hand). z.0.kept.limits) is; armed = ap (λ (z : Hand). z.0.kept.armed) is })
+    (λ ne. let is = miss ne in record { hands = ap (λ (z : Hand). z.1) is; arming = ap (λ (z : Hand). z.0.arming) is; parts = ap (λ (z : Hand). z.0.kept.parts) is; limits = ap (λ (z : Hand). z.0.kept.limits) is; armed = ap (λ (z : Hand). z.0.kept.armed) is })
+
+-- a seat that reads states has read no less than before
+pub record IsReading (before k : Kept) : Type 0 where
+  pub number : ℕ
+  pub word : ℕ
+  pub reads : ℕ
+  pub more : before.reads ≤ reads
+  pub is : k ≡ record before { state_of = number; state_word = word; reads = reads }
+
+pub reads_on : (before k l : Kept) (number word : ℕ) → IsReading before k → l ≡ with_state k number word → IsReading before l
+reads_on before k l number word r is = record { number = number; word = word; reads = r.reads + 1; more = (let a = r.more in omega arith); is = is ∙ ap (λ (z : Kept). with_state z number word) r.is }
+
+pub has_waited : (before k l : Kept) (number word : ℕ) → IsReading before k → l ≡ with_state k number word → word ≢ 0 → HasWaited before number l
+has_waited before k l number word r is ne = (word, r.reads + 1, ne, (let a = r.more in omega arith), is ∙ ap (λ (z : Kept). with_state z number word) r.is)
 
 cancelling_same : (k : Kept) (t : Ticket) (found : ℕ) → ((cancelling k t found).parts ≡ k.parts) × ((cancelling k t found).limits ≡ k.limits) × ((cancelling k t found).armed ≡ k.armed)
 cancelling_same k t zero = (refl, refl, refl)
@@ -104,3 +126,9 @@ is_known (suc (suc zero)) small none refused e = absurd (cc)
 is_known (suc (suc (suc zero))) small none refused e = absurd (cc)
 is_known (suc (suc (suc (suc zero)))) small none refused e = refused refl
 is_known (suc (suc (suc (suc (suc n))))) small none refused e = absurd (omega arith)
+
+-- what a fire answers by the state that it found, once the state was set and the moment was the ticket's
+pub fired_or_dropped : (before k w : Kept) (t : Ticket) (at found : ℕ) → t.number < before.limits.timers → HasWaited before t.number k → (found ≡ 1 → w ≡ with_fired (with_state (looked k t) t.number found) (firing t at)) → (found ≢ 1 → w ≡ with_state (looked k t) t.number found) → found ≢ 0 → found ≤ 4 → MatchBool (eqb found 1) (IsFired before t at w) (IsDropped before t w)
+fired_or_dropped before k w t at found within waited hit miss was_set small = dite (ℕ_discrete found 1)
+    (λ e. subst (λ (b : Bool). MatchBool b (IsFired before t at w) (IsDropped before t w)) (sym (eq-eqb found 1 e)) (within, k, waited, hit e ∙ ap (λ (n : ℕ). with_fired (with_state (looked k t) t.number n) (firing t at)) e))
+    (λ ne. subst (λ (b : Bool). MatchBool b (IsFired before t at w) (IsDropped before t w)) (sym (ne_eqb found 1 ne)) (inr (k, waited, inr (found, omega arith, small, miss ne))))

@@ -20,8 +20,8 @@ use Rattle.pq_timers.specs.declared.ticket.Ticket.{Ticket}
 use Rattle.pq_timers.specs.declared.words.kept.Firing.{Firing}
 use Rattle.pq_timers.specs.declared.words.kept.TimerLimits.{TimerLimits}
 use Rattle.pq_timers.specs.declared.words.kept.TimerView.{TimerView}
-use Rattle.pq_timers.specs.Words.{ticket, number_of, fired_number, times, with_moment, with_state, with_refused, HasArmed}
-use Rattle.pq_timers.specs.WordRules.{timer_kind, arm_draw, is_in, is_set, state_at, moment_at, times_in, armed_by, refused_by, cancelled_by, fired_by, arming_by, IsMeant, FitsTimers, IsTimers, with_kept, drawn_view, armed_view, read_ticket, cancelling, drew, stored_moment, set_armed, saw_moment, tried_cancel, tried_refuse, learned}
+use Rattle.pq_timers.specs.Words.{ticket, number_of, fired_number, times, with_moment, with_state, with_refused, with_fired, firing, HasArmed}
+use Rattle.pq_timers.specs.WordRules.{timer_kind, arm_draw, is_in, is_set, state_at, moment_at, times_in, armed_by, refused_by, cancelled_by, fired_by, arming_by, IsMeant, FitsTimers, IsTimers, with_kept, drawn_view, armed_view, read_ticket, cancelling, drew, stored_moment, set_armed, saw_moment, tried_cancel, tried_refuse, tried_fire, saw_state, learned}
 use Rattle.pq_timers.proofs.Counted.{drawn_times, sum-eq, length-push, one_state, state_apart, not_made_state, set_none}
 use Rattle.pq_timers.proofs.Known.{one_ticket, made_fits, armed_state, knows}
 
@@ -31,6 +31,7 @@ pub record Later (word word' moment_of moment_of' : ℕ → ℕ) : Type 0 where
   pub same : (x : ℕ) → x < word 0 → moment_of' x ≡ moment_of x
   pub cancelled : (x : ℕ) → word (state_at x) ≡ 2 → word' (state_at x) ≡ 2
   pub fired : (x : ℕ) → word (state_at x) ≡ 3 → word' (state_at x) ≡ 3
+  pub set : (x : ℕ) → word (state_at x) ≢ 0 → word' (state_at x) ≢ 0
   pub moments : (x m : ℕ) → word (moment_at x) ≡ suc m → word' (moment_at x) ≡ suc m
 
 pub meant_later : {word word' moment_of moment_of' : ℕ → ℕ} → Later word word' moment_of moment_of' → (t : Ticket) → IsMeant (word 0) moment_of t → IsMeant (word' 0) moment_of' t
@@ -54,18 +55,19 @@ fits_later limits l v f = record {
   was_fired = λ t c. let a = f.was_fired t c in (meant_later l t a.0, l.fired t.number a.1);
   arming = λ t is. meant_later l t (f.arming t is);
   stored = λ t is stored. l.moments t.number t.moment (f.stored t is stored);
+  set = λ ne. l.set v.kept.state_of (f.set ne);
   read = λ ne. meant_later l (read_ticket v.kept) (f.read ne);
 }
 
 same_later : (word moment_of : ℕ → ℕ) → Later word word moment_of moment_of
-same_later word moment_of = record { made = omega arith; same = λ x lt. refl; cancelled = λ x e. e; fired = λ x e. e; moments = λ x m e. e }
+same_later word moment_of = record { made = omega arith; same = λ x lt. refl; cancelled = λ x e. e; fired = λ x e. e; set = λ x ne. ne; moments = λ x m e. e }
 
 -- what a seat found by a ticket fits, and the state that it read
-fits_told : (limits : TimerLimits) {word moment_of : ℕ → ℕ} (v : TimerView) (were were_fired : List Ticket) (state_word more : ℕ) → 0 < v.kept.parts → FitsTimers limits word moment_of v
+fits_told : (limits : TimerLimits) {word moment_of : ℕ → ℕ} (v : TimerView) (were were_fired : List Ticket) (number state_word more : ℕ) → 0 < v.kept.parts → (state_word ≢ 0 → word (state_at number) ≢ 0) → FitsTimers limits word moment_of v
     → ((t : Ticket) → Contains were t → IsMeant (word 0) moment_of t × (word (state_at t.number) ≡ 2))
     → ((t : Ticket) → Contains were_fired t → IsMeant (word 0) moment_of t × (word (state_at t.number) ≡ 3))
-    → FitsTimers limits word moment_of (with_kept v (record v.kept { was_cancelled = were; was_fired = were_fired; state_word = state_word; reads = more }))
-fits_told limits v were were_fired state_word more some_part f cancelled fired = record {
+    → FitsTimers limits word moment_of (with_kept v (record v.kept { was_cancelled = were; was_fired = were_fired; state_of = number; state_word = state_word; reads = more }))
+fits_told limits v were were_fired number state_word more some_part set f cancelled fired = record {
   idle = λ z. absurd (omega arith);
   whole = f.whole;
   few = f.few;
@@ -81,6 +83,7 @@ fits_told limits v were were_fired state_word more some_part f cancelled fired =
   was_fired = fired;
   arming = f.arming;
   stored = f.stored;
+  set = set;
   read = f.read;
 }
 
@@ -153,6 +156,7 @@ module _ {S : Type 0} (limits : TimerLimits) where
           was_fired = f.was_fired;
           arming = f.arming;
           stored = f.stored;
+          set = f.set;
           read = λ ne. let m = h.moments x ne in let is = m.1 in (m.0, omega arith);
         }),
         λ x' is. let e : x ≡ x' = omega arith in (
@@ -190,6 +194,7 @@ module _ {S : Type 0} (limits : TimerLimits) where
         same = else_moment;
         cancelled = λ x e. state x ∙ e;
         fired = λ x e. state x ∙ e;
+        set = λ x ne z. ne (sym (state x) ∙ z);
         moments = λ x m e. moment_word x ∙ e;
       } in
       let g : FitsTimers limits word' moment_of v = fits_later limits later v f in
@@ -231,6 +236,7 @@ module _ {S : Type 0} (limits : TimerLimits) where
               was_fired = g.was_fired;
               arming = λ u is. subst (IsMeant (word' 0) moment_of) (picked_is (ltb made v.kept.limits.timers) t u is) meant;
               stored = λ u is stored. absurd (false_true stored);
+              set = g.set;
               read = g.read;
             })
             (λ j u there. fits_later limits later u (h.each j u there));
@@ -256,6 +262,7 @@ module _ {S : Type 0} (limits : TimerLimits) where
         same = λ x lt. refl;
         cancelled = λ x e. state x ∙ e;
         fired = λ x e. state x ∙ e;
+        set = λ x ne z. ne (sym (state x) ∙ z);
         moments = λ x m e. dite (ℕ_discrete x t.number)
             (λ is. let a : get_or s.words (moment_at x) 0 ≡ suc (h.moment_of x) = (h.moments x (λ z. omega arith)).1 in let b = ap h.moment_of is in let c = meant.1 in
             ap (λ (y : ℕ). word' (moment_at y)) is ∙ (new ∙ (let z : suc t.moment ≡ suc m = omega arith in z)))
@@ -294,6 +301,7 @@ module _ {S : Type 0} (limits : TimerLimits) where
               was_fired = g.was_fired;
               arming = g.arming;
               stored = λ u is stored. let e : t ≡ u = same_some t u (sym arming ∙ is) in subst (λ (z : Ticket). word' (moment_at z.number) ≡ suc z.moment) e new;
+              set = g.set;
               read = g.read;
             })
             (λ j u there. fits_later limits later u (h.each j u there));
@@ -302,7 +310,7 @@ module _ {S : Type 0} (limits : TimerLimits) where
 
   -- The state of one timer becomes another, as the counts of the view say, and never from cancelled or fired
   pub moves : (s : State S TimerView) (h : IsTimers limits s) (x n id : ℕ) (v w : TimerView) (c : List (ℕ × S)) → get_elem? s.views id ≡ some v
-      → x < limits.timers → n ≤ 4 → get_or s.words (state_at x) 0 ≤ 1 → get_or s.words (moment_at x) 0 ≡ suc (h.moment_of x)
+      → x < limits.timers → n ≤ 4 → 0 < n → get_or s.words (state_at x) 0 ≤ 1 → get_or s.words (moment_at x) 0 ≡ suc (h.moment_of x)
       → w.kept.parts ≡ v.kept.parts → w.kept.arms ≡ v.kept.arms
       → is_set n + armed_by x v ≡ is_set (get_or s.words (state_at x) 0) + armed_by x w
       → is_in 4 n + refused_by x v ≡ refused_by x w
@@ -311,7 +319,7 @@ module _ {S : Type 0} (limits : TimerLimits) where
       → ((y : ℕ) → y ≢ x → (armed_by y w ≡ armed_by y v) × (refused_by y w ≡ refused_by y v) × (cancelled_by y w ≡ cancelled_by y v) × (fired_by y w ≡ fired_by y v))
       → (Later (λ j. get_or s.words j 0) (λ j. get_or (set s.words (state_at x) n) j 0) h.moment_of h.moment_of → get_or (set s.words (state_at x) n) (state_at x) 0 ≡ n → FitsTimers limits (λ j. get_or (set s.words (state_at x) n) j 0) h.moment_of w)
       → IsTimers limits (stepped s (state_at x) n id c w keeps)
-  moves s h x n id v w c at within small unended stored parts arms armed refused cancelled fired others fits =
+  moves s h x n id v w c at within small ends unended stored parts arms armed refused cancelled fired others fits =
       let wide = h.wide in let i : ℕ = state_at x in
       let word' : ℕ → ℕ = λ j. get_or (set s.words i n) j 0 in
       let low : i < length s.words = omega arith in
@@ -328,6 +336,7 @@ module _ {S : Type 0} (limits : TimerLimits) where
         same = λ y lt. refl;
         cancelled = old 2 (omega arith);
         fired = old 3 (omega arith);
+        set = λ y ne z. dite (ℕ_discrete y x) (λ e. let a = ap (λ (q : ℕ). word' (state_at q)) e in omega arith) (λ no. ne (sym (state_else y no) ∙ z));
         moments = λ y m e. moment_word y ∙ e;
       } in
       let no : (m : ℕ) → 1 < m → is_in m (get_or s.words i 0) ≡ 0 = λ m more. other_none (get_or s.words i 0) m (λ e. omega arith) in
@@ -373,7 +382,7 @@ module _ {S : Type 0} (limits : TimerLimits) where
       let w : TimerView = armed_view v t in
       let pushed : (y : ℕ) → armed_by y w ≡ armed_by y v + one_if (eqb x y) = λ y. times-push number_of y v.kept.armed t in
       let was : (y : ℕ) → arming_by y v ≡ one_if (eqb x y) = λ y. ap (times_in y) arming in
-      let now : IsTimers limits (stepped s (state_at x) 1 id me.1 w keeps) = moves s h x 1 id v w me.1 at within (omega arith) (omega arith) (f.stored t arming stored ∙ ap suc (sym meant.1)) refl refl
+      let now : IsTimers limits (stepped s (state_at x) 1 id me.1 w keeps) = moves s h x 1 id v w me.1 at within (omega arith) (omega arith) (omega arith) (f.stored t arming stored ∙ ap suc (sym meant.1)) refl refl
       (let a = ap is_set old in let b = pushed x in let c = same_one x x refl in omega arith)
       (omega arith) (omega arith) (omega arith)
       (λ y ne. ((let a = pushed y in let b = other_none x y (λ z. ne (sym z)) in omega arith), refl, refl, refl))
@@ -393,6 +402,7 @@ module _ {S : Type 0} (limits : TimerLimits) where
         was_fired = g.was_fired;
         arming = λ u is. absurd (none_some u is);
         stored = λ u is z. absurd (none_some u is);
+        set = g.set;
         read = g.read;
       })
       in (
@@ -405,13 +415,13 @@ module _ {S : Type 0} (limits : TimerLimits) where
       )
 
   -- what a step leaves that found this state, which it did not change
-  told : (s : State S TimerView) (h : IsTimers limits s) (i n id : ℕ) (v : TimerView) (were were_fired : List Ticket) (c : List (ℕ × S)) → get_elem? s.views id ≡ some v → 0 < v.kept.parts → get_or s.words i 0 ≡ n
+  told : (s : State S TimerView) (h : IsTimers limits s) (x n id : ℕ) (v : TimerView) (were were_fired : List Ticket) (c : List (ℕ × S)) → get_elem? s.views id ≡ some v → 0 < v.kept.parts → get_or s.words (state_at x) 0 ≡ n
       → ((t : Ticket) → Contains were t → IsMeant (get_or s.words 0 0) h.moment_of t × (get_or s.words (state_at t.number) 0 ≡ 2))
       → ((t : Ticket) → Contains were_fired t → IsMeant (get_or s.words 0 0) h.moment_of t × (get_or s.words (state_at t.number) 0 ≡ 3))
-      → IsTimers limits (stepped s i n id c (with_kept v (record v.kept { was_cancelled = were; was_fired = were_fired; state_word = n; reads = v.kept.reads + 1 })) keeps)
-  told s h i n id v were were_fired c at some_part is cancelled fired =
-      let w : TimerView = with_kept v (record v.kept { was_cancelled = were; was_fired = were_fired; state_word = n; reads = v.kept.reads + 1 }) in
-      subst (λ z. IsTimers limits (stepped s i z id c w keeps)) is (reads s h i id v w c at refl refl refl refl refl refl (fits_told limits v were were_fired n (v.kept.reads + 1) some_part (h.each id v at) cancelled fired))
+      → IsTimers limits (stepped s (state_at x) n id c (with_kept v (record v.kept { was_cancelled = were; was_fired = were_fired; state_of = x; state_word = n; reads = v.kept.reads + 1 })) keeps)
+  told s h x n id v were were_fired c at some_part is cancelled fired =
+      let i = state_at x in let w : TimerView = with_kept v (record v.kept { was_cancelled = were; was_fired = were_fired; state_of = x; state_word = n; reads = v.kept.reads + 1 }) in
+      subst (λ z. IsTimers limits (stepped s i z id c w keeps)) is (reads s h i id v w c at refl refl refl refl refl refl (fits_told limits v were were_fired x n (v.kept.reads + 1) some_part (λ ne z. ne (sym is ∙ z)) (h.each id v at) cancelled fired))
 
   module _ (s : State S TimerView) (h : IsTimers limits s) (slots id x : ℕ) (me : Me S TimerView) (at : get_elem? s.views id ≡ some me.0) (some_part : 0 < me.0.kept.parts)
       (quiet : me.0.arming ≡ None) (within : x < limits.timers) (looked : me.0.kept.at ≡ x) (some_moment : me.0.kept.moment_word ≢ 0) where
@@ -431,13 +441,13 @@ module _ {S : Type 0} (limits : TimerLimits) where
 
     -- the state was another than armed
     missed : (n : ℕ) → get_or s.words (state_at x) 0 ≡ n → n ≤ 4 → either (eqb n 1) 2 n ≡ n → (were were_fired : List Ticket)
-        → cancelling me.0.kept t n ≡ record me.0.kept { was_cancelled = were; was_fired = were_fired; state_word = n; reads = me.0.kept.reads + 1 }
+        → cancelling me.0.kept t n ≡ record me.0.kept { was_cancelled = were; was_fired = were_fired; state_of = x; state_word = n; reads = me.0.kept.reads + 1 }
         → ((u : Ticket) → Contains were u → IsMeant (get_or s.words 0 0) h.moment_of u × (get_or s.words (state_at u.number) 0 ≡ 2))
         → ((u : Ticket) → Contains were_fired u → IsMeant (get_or s.words 0 0) h.moment_of u × (get_or s.words (state_at u.number) 0 ≡ 3))
         → Cancelled n
     missed n is small stays were were_fired kept cancelled fired =
-        let w : TimerView = with_kept me.0 (record me.0.kept { was_cancelled = were; was_fired = were_fired; state_word = n; reads = me.0.kept.reads + 1 }) in
-        let now : IsTimers limits (stepped s (state_at x) n id me.1 w keeps) = told s h (state_at x) n id me.0 were were_fired me.1 at some_part is cancelled fired in (
+        let w : TimerView = with_kept me.0 (record me.0.kept { was_cancelled = were; was_fired = were_fired; state_of = x; state_word = n; reads = me.0.kept.reads + 1 }) in
+        let now : IsTimers limits (stepped s (state_at x) n id me.1 w keeps) = told s h x n id me.0 were were_fired me.1 at some_part is cancelled fired in (
           w,
           keeps,
           tt,
@@ -455,7 +465,7 @@ module _ {S : Type 0} (limits : TimerLimits) where
         let meant = f.read some_moment in
         let pushed : (y : ℕ) → cancelled_by y w ≡ cancelled_by y v + one_if (eqb v.kept.at y) = λ y. times-push number_of y v.kept.cancelled t in
         let stored = h.set x (λ z. omega arith) in
-        let now : IsTimers limits (stepped s (state_at x) 2 id me.1 w keeps) = moves s h x 2 id v w me.1 at within (omega arith) (omega arith) stored refl refl
+        let now : IsTimers limits (stepped s (state_at x) 2 id me.1 w keeps) = moves s h x 2 id v w me.1 at within (omega arith) (omega arith) (omega arith) stored refl refl
         (let a = ap is_set is in omega arith)
         (omega arith)
         (let a = pushed x in let b = same_one v.kept.at x looked in omega arith)
@@ -477,21 +487,29 @@ module _ {S : Type 0} (limits : TimerLimits) where
           was_fired = g.was_fired;
           arming = g.arming;
           stored = g.stored;
+          set = λ ne z. let a = ap (λ (q : ℕ). get_or (set s.words (state_at x) 2) (state_at q) 0) looked in omega arith;
           read = g.read;
         })
         in
         (w, keeps, tt, now, (refl, own_facts 1 is, omega arith, knows limits (stepped s (state_at x) 2 id me.1 w keeps) now id w (here s.views id v w at) some_part quiet))
 
+    at_x : (n : ℕ) → cancelling me.0.kept t n ≡ record (cancelling me.0.kept t n) { state_of = x }
+    at_x zero i = record (cancelling me.0.kept t 0) { state_of = looked i }
+    at_x (suc zero) i = record (cancelling me.0.kept t 1) { state_of = looked i }
+    at_x (suc (suc zero)) i = record (cancelling me.0.kept t 2) { state_of = looked i }
+    at_x (suc (suc (suc zero))) i = record (cancelling me.0.kept t 3) { state_of = looked i }
+    at_x (suc (suc (suc (suc n)))) i = record (cancelling me.0.kept t (suc (suc (suc (suc n))))) { state_of = looked i }
+
     cancelled_case : (n : ℕ) → get_or s.words (state_at x) 0 ≡ n → Cancelled n
-    cancelled_case zero is = missed 0 is (omega arith) refl me.0.kept.was_cancelled me.0.kept.was_fired refl f.was_cancelled f.was_fired
+    cancelled_case zero is = missed 0 is (omega arith) refl me.0.kept.was_cancelled me.0.kept.was_fired (at_x 0) f.was_cancelled f.was_fired
     cancelled_case (suc zero) is = won is
-    cancelled_case (suc (suc zero)) is = missed 2 is (omega arith) refl (me.0.kept.was_cancelled ++ t ∷ []) me.0.kept.was_fired refl
+    cancelled_case (suc (suc zero)) is = missed 2 is (omega arith) refl (me.0.kept.was_cancelled ++ t ∷ []) me.0.kept.was_fired (at_x 2)
         (λ u c. ⊎_elim (λ had. f.was_cancelled u had) (λ e. subst (λ (z : Ticket). IsMeant (get_or s.words 0 0) h.moment_of z × (get_or s.words (state_at z.number) 0 ≡ 2)) e (f.read some_moment, is_at is)) (Contains-push_cases me.0.kept.was_cancelled t u c))
         f.was_fired
-    cancelled_case (suc (suc (suc zero))) is = missed 3 is (omega arith) refl me.0.kept.was_cancelled (me.0.kept.was_fired ++ t ∷ []) refl
+    cancelled_case (suc (suc (suc zero))) is = missed 3 is (omega arith) refl me.0.kept.was_cancelled (me.0.kept.was_fired ++ t ∷ []) (at_x 3)
         f.was_cancelled
         (λ u c. ⊎_elim (λ had. f.was_fired u had) (λ e. subst (λ (z : Ticket). IsMeant (get_or s.words 0 0) h.moment_of z × (get_or s.words (state_at z.number) 0 ≡ 3)) e (f.read some_moment, is_at is)) (Contains-push_cases me.0.kept.was_fired t u c))
-    cancelled_case (suc (suc (suc (suc zero)))) is = missed 4 is (omega arith) refl me.0.kept.was_cancelled me.0.kept.was_fired refl f.was_cancelled f.was_fired
+    cancelled_case (suc (suc (suc (suc zero)))) is = missed 4 is (omega arith) refl me.0.kept.was_cancelled me.0.kept.was_fired (at_x 4) f.was_cancelled f.was_fired
     cancelled_case (suc (suc (suc (suc (suc n))))) is = let a = h.states x in absurd (omega arith)
 
   -- A timer is cancelled where it is armed, by the ticket that the seat read the moment word of
@@ -512,11 +530,11 @@ module _ {S : Type 0} (limits : TimerLimits) where
       (λ z. a.0 (omega arith), λ z. a.1 (omega arith)) in
       exchanged old 1 4 F
       (λ hit.
-      let w : TimerView = with_kept v (with_refused (with_state v.kept old) t) in
+      let w : TimerView = with_kept v (with_refused (with_state v.kept t.number old) t) in
       let pushed : (y : ℕ) → refused_by y w ≡ refused_by y v + one_if (eqb x y) = λ y. times-push number_of y v.kept.refused t in
       let none_yet : refused_by x v ≡ 0 = let a = one-le-sum (refused_by x) s.views id v at in let b = h.refused x in let c = ap (is_in 4) hit in omega arith in
       let mine = times-contains number_of v.kept.armed t has in
-      let now : IsTimers limits (stepped s (state_at x) 4 id me.1 w keeps) = moves s h x 4 id v w me.1 at within (omega arith) (omega arith) (h.set x (λ z. omega arith)) refl refl
+      let now : IsTimers limits (stepped s (state_at x) 4 id me.1 w keeps) = moves s h x 4 id v w me.1 at within (omega arith) (omega arith) (omega arith) (h.set x (λ z. omega arith)) refl refl
       (let a = ap is_set hit in omega arith)
       (let a = pushed x in let b = same_one x x refl in omega arith)
       (omega arith) (omega arith)
@@ -539,6 +557,7 @@ module _ {S : Type 0} (limits : TimerLimits) where
         was_fired = g.was_fired;
         arming = g.arming;
         stored = g.stored;
+        set = λ ne z. omega arith;
         read = g.read;
       })
       in (
@@ -547,9 +566,67 @@ module _ {S : Type 0} (limits : TimerLimits) where
         tt,
         now,
         λ u c is. let e = only u c is in
-            ((λ found. (λ i. (with_kept v (with_refused (with_state v.kept old) (e i)), me.1))), (λ ne. absurd (ne hit)), own u e, knows limits (stepped s (state_at x) 4 id me.1 w keeps) now id w (here s.views id v w at) some_part quiet),
+            ((λ found. (λ i. (with_kept v (with_refused (with_state v.kept (e i).number old) (e i)), me.1))), (λ ne. absurd (ne hit)), own u e, knows limits (stepped s (state_at x) 4 id me.1 w keeps) now id w (here s.views id v w at) some_part quiet),
       ))
       (λ miss.
-      let w : TimerView = with_kept v (with_state v.kept old) in
-      let now : IsTimers limits (stepped s (state_at x) old id me.1 w keeps) = told s h (state_at x) old id v v.kept.was_cancelled v.kept.was_fired me.1 at some_part refl f.was_cancelled f.was_fired in
-      (w, keeps, tt, now, λ u c is. ((λ found. absurd (miss found)), (λ ne. refl), own u (only u c is), knows limits (stepped s (state_at x) old id me.1 w keeps) now id w (here s.views id v w at) some_part quiet)))
+      let w : TimerView = with_kept v (with_state v.kept t.number old) in
+      let now : IsTimers limits (stepped s (state_at x) old id me.1 w keeps) = told s h x old id v v.kept.was_cancelled v.kept.was_fired me.1 at some_part refl f.was_cancelled f.was_fired in
+      (w, keeps, tt, now, λ u c is. ((λ found. absurd (miss found)), (λ ne i. (with_kept v (with_state v.kept (only u c is i).number old), me.1)), own u (only u c is), knows limits (stepped s (state_at x) old id me.1 w keeps) now id w (here s.views id v w at) some_part quiet)))
+
+  -- A load of the state word of a timer
+  pub sees_state : (slots id x : ℕ) (me : Me S TimerView) → 0 < me.0.kept.parts → Allows (IsTimers limits) slots id me (state_at x) (λ n. n) (λ n w. saw_state (step slots (state_at x) 0 0 none) me n w)
+  sees_state slots id x me some_part s h hs at fits =
+      let v = me.0 in let f = h.each id v at in let word : ℕ = get_or s.words (state_at x) 0 in (
+        with_kept v (with_state v.kept x word),
+        keeps,
+        tt,
+        told s h x word id v v.kept.was_cancelled v.kept.was_fired me.1 at some_part refl f.was_cancelled f.was_fired,
+        λ x' is. let e : x ≡ x' = omega arith in λ i. (with_kept v (with_state v.kept (e i) word), me.1),
+      )
+
+  -- A timer is fired where it is armed, by a seat that read its moment and saw that its state was not none
+  pub tries_fire : (slots id x now_is : ℕ) (me : Me S TimerView) → 0 < me.0.kept.parts → me.0.arming ≡ None → x < limits.timers → me.0.kept.at ≡ x → me.0.kept.moment_word ≢ 0
+      → me.0.kept.state_of ≡ x → me.0.kept.state_word ≢ 0 → me.0.kept.moment_word - 1 ≤ now_is
+      → Allows (IsTimers limits) slots id me (state_at x) (λ n. either (eqb n 1) 3 n) (λ n w. tried_fire (step slots (state_at x) 1 3 none) me n w now_is)
+  tries_fire slots id x now_is me some_part quiet within looked some_moment waited some_state due s h hs at fits =
+      let v = me.0 in let f = h.each id v at in let t : Ticket = read_ticket v.kept in let old : ℕ = get_or s.words (state_at x) 0 in
+      let F : ℕ → Type 0 = λ z. (u : TimerView) × (a : Act S) × Valid s.homes me.1 a × IsTimers limits (stepped s (state_at x) z id me.1 u a) × tried_fire (step slots (state_at x) 1 3 none) me old (u, carried_after me.1 a) now_is in
+      let was_set : old ≢ 0 = λ z. f.set some_state (ap (λ (q : ℕ). get_or s.words (state_at q) 0) waited ∙ z) in
+      let small : old ≤ 4 = h.states x in
+      exchanged old 1 3 F
+      (λ hit.
+      let g' : Firing = firing t now_is in
+      let w : TimerView = with_kept v (with_fired (with_state v.kept t.number old) g') in
+      let meant = f.read some_moment in
+      let pushed : (y : ℕ) → fired_by y w ≡ fired_by y v + one_if (eqb v.kept.at y) = λ y. times-push fired_number y v.kept.fired g' in
+      let now : IsTimers limits (stepped s (state_at x) 3 id me.1 w keeps) = moves s h x 3 id v w me.1 at within (omega arith) (omega arith) (omega arith) (h.set x was_set) refl refl
+      (let a = ap is_set hit in omega arith)
+      (omega arith) (omega arith)
+      (let a = pushed x in let b = same_one v.kept.at x looked in omega arith)
+      (λ y ne. (refl, refl, refl, (let a = pushed y in let b = other_none v.kept.at y (λ z. ne (sym z ∙ looked)) in omega arith)))
+      (λ later new. let g = fits_later limits later v f in record {
+        idle = λ z. absurd (omega arith);
+        whole = f.whole;
+        few = f.few;
+        own = f.own;
+        past = f.past;
+        refused_own = f.refused_own;
+        arms = g.arms;
+        armed = g.armed;
+        refused = g.refused;
+        cancelled = g.cancelled;
+        fired = λ u c. ⊎_elim (λ had. g.fired u had) (λ e. subst (λ (z : Firing). IsMeant (get_or (set s.words (state_at x) 3) 0 0) h.moment_of z.ticket × (z.ticket.moment ≤ z.now)) e (meant_later later t meant, due)) (Contains-push_cases v.kept.fired g' u c);
+        was_cancelled = g.was_cancelled;
+        was_fired = g.was_fired;
+        arming = g.arming;
+        stored = g.stored;
+        set = λ ne z. let a = ap (λ (q : ℕ). get_or (set s.words (state_at x) 3) (state_at q) 0) looked in omega arith;
+        read = g.read;
+      })
+      in
+      (w, keeps, tt, now, ((λ found. refl), (λ ne. absurd (ne hit)), was_set, small, knows limits (stepped s (state_at x) 3 id me.1 w keeps) now id w (here s.views id v w at) some_part quiet)))
+      (λ miss.
+      let w : TimerView = with_kept v (with_state v.kept t.number old) in
+      let told_now : IsTimers limits (stepped s (state_at t.number) (get_or s.words (state_at t.number) 0) id me.1 (with_kept v (with_state v.kept t.number (get_or s.words (state_at t.number) 0))) keeps) = told s h t.number (get_or s.words (state_at t.number) 0) id v v.kept.was_cancelled v.kept.was_fired me.1 at some_part refl f.was_cancelled f.was_fired in
+      let now : IsTimers limits (stepped s (state_at x) old id me.1 w keeps) = subst (λ (y : ℕ). IsTimers limits (stepped s (state_at y) (get_or s.words (state_at y) 0) id me.1 (with_kept v (with_state v.kept t.number (get_or s.words (state_at y) 0))) keeps)) looked told_now in
+      (w, keeps, tt, now, ((λ found. absurd (miss found)), (λ ne. refl), was_set, small, knows limits (stepped s (state_at x) old id me.1 w keeps) now id w (here s.views id v w at) some_part quiet)))

@@ -18,7 +18,8 @@ use Rattle.pq_timers.specs.declared.words.kept.TimerView.{TimerView}
 use Rattle.pq_timers.specs.Limits.{max_timers, moment_limit, use_limit}
 use Rattle.pq_timers.specs.Words.{armed_state, cancelled_state, fired_state, refused_state, ticket, fired_number, times}
 use Rattle.pq_timers.specs.Words.{new_kept, with_arm, with_armed, with_refused, with_cancelled, with_fired}
-use Rattle.pq_timers.specs.Words.{with_was_cancelled, with_was_fired, with_moment, with_state, kept_joined, HasArmed, KnowsTimers}
+use Rattle.pq_timers.specs.Words.{with_was_cancelled, with_was_fired, with_moment, with_state, kept_joined, firing, HasArmed}
+use Rattle.pq_timers.specs.Words.{KnowsTimers}
 
 abbrev pub moment_at : ℕ → ℕ
 moment_at x = 2 * x + 1
@@ -96,6 +97,7 @@ pub record FitsTimers (limits : TimerLimits) (word : ℕ → ℕ) (moment_of : �
       → IsMeant (word 0) moment_of t × (word (state_at t.number) ≡ fired_state)
   pub arming : (t : Ticket) → v.arming ≡ Some t → IsMeant (word 0) moment_of t
   pub stored : (t : Ticket) → v.arming ≡ Some t → v.stored ≡ true → word (moment_at t.number) ≡ suc t.moment
+  pub set : v.kept.state_word ≢ 0 → word (state_at v.kept.state_of) ≢ 0
   pub read : v.kept.moment_word ≢ 0 → IsMeant (word 0) moment_of (ticket v.kept.at (v.kept.moment_word - 1))
 
 -- The seats draw each number below the made word once. Each timer's state word tells how often it was armed, refused,
@@ -164,11 +166,11 @@ read_ticket k = ticket k.at (k.moment_word - 1)
 
 -- what a seat keeps that found this state where it tried to cancel
 abbrev pub cancelling : Kept → Ticket → ℕ → Kept
-cancelling k t zero = with_state k 0
-cancelling k t (suc zero) = with_cancelled (with_state k 1) t
-cancelling k t (suc (suc zero)) = with_was_cancelled (with_state k 2) t
-cancelling k t (suc (suc (suc zero))) = with_was_fired (with_state k 3) t
-cancelling k t (suc (suc (suc (suc n)))) = with_state k (n + 4)
+cancelling k t zero = with_state k t.number 0
+cancelling k t (suc zero) = with_cancelled (with_state k t.number 1) t
+cancelling k t (suc (suc zero)) = with_was_cancelled (with_state k t.number 2) t
+cancelling k t (suc (suc (suc zero))) = with_was_fired (with_state k t.number 3) t
+cancelling k t (suc (suc (suc (suc n)))) = with_state k t.number (n + 4)
 
 -- What each step tells.
 module _ {S : Type 0} (st : Step S) (m : Me S TimerView) (found : ℕ) (w : Me S TimerView) where
@@ -194,9 +196,20 @@ module _ {S : Type 0} (st : Step S) (m : Me S TimerView) (found : ℕ) (w : Me S
   -- the state was armed and is refused, or is what a cancel made of it
   abbrev pub tried_refuse : Type 0
   tried_refuse = (t : Ticket) → Contains m.0.kept.armed t → st.word ≡ state_at t.number →
-      (found ≡ armed_state → w ≡ (with_kept m.0 (with_refused (with_state m.0.kept found) t), m.1))
-      × (found ≢ armed_state → w ≡ (with_kept m.0 (with_state m.0.kept found), m.1))
+      (found ≡ armed_state → w ≡ (with_kept m.0 (with_refused (with_state m.0.kept t.number found) t), m.1))
+      × (found ≢ armed_state → w ≡ (with_kept m.0 (with_state m.0.kept t.number found), m.1))
       × (HasArmed m.0.kept t → (found ≢ 0) × (found ≢ refused_state)) × KnowsTimers w.0.kept
+
+  abbrev pub saw_state : Type 0
+  saw_state = (x : ℕ) → st.word ≡ state_at x → w ≡ (with_kept m.0 (with_state m.0.kept x found), m.1)
+
+  -- the state was armed and is fired at this moment, or is what became of it
+  abbrev pub tried_fire : ℕ → Type 0
+  tried_fire at = let t = read_ticket m.0.kept in
+      (found ≡ armed_state
+      → w ≡ (with_kept m.0 (with_fired (with_state m.0.kept t.number found) (firing t at)), m.1))
+      × (found ≢ armed_state → w ≡ (with_kept m.0 (with_state m.0.kept t.number found), m.1))
+      × (found ≢ 0) × (found ≤ refused_state) × KnowsTimers w.0.kept
 
   abbrev pub learned : Type 0
   learned = (w ≡ m) × KnowsTimers m.0.kept

@@ -66,6 +66,7 @@ new_kept limits parts = record {
   was_fired = [];
   at = 0;
   moment_word = 0;
+  state_of = 0;
   state_word = 0;
   reads = 0;
 }
@@ -95,12 +96,12 @@ with_was_cancelled k t = record k { was_cancelled = k.was_cancelled ++ t ∷ [] 
 abbrev pub with_was_fired : Kept → Ticket → Kept
 with_was_fired k t = record k { was_fired = k.was_fired ++ t ∷ [] }
 
--- the seat read the moment word of this number, or a state word
+-- the seat read the moment word of this number, or its state word
 abbrev pub with_moment : Kept → ℕ → ℕ → Kept
 with_moment k number word = record k { at = number; moment_word = word; reads = k.reads + 1 }
 
-abbrev pub with_state : Kept → ℕ → Kept
-with_state k word = record k { state_word = word; reads = k.reads + 1 }
+abbrev pub with_state : Kept → ℕ → ℕ → Kept
+with_state k number word = record k { state_of = number; state_word = word; reads = k.reads + 1 }
 
 -- what two seats did, of which the second is gone
 abbrev pub kept_joined : Kept → Kept → Kept
@@ -131,21 +132,42 @@ looked k t = with_moment k t.number (t.moment + 1)
 abbrev pub IsUnknown : Kept → Ticket → Kept → Type 0
 IsUnknown before t now = ((before.limits.timers ≤ t.number) × (now ≡ before))
     ⊎ ((word : ℕ) × (word ≢ t.moment + 1) × (now ≡ with_moment before t.number word))
-    ⊎ ((word : ℕ) × ((word ≡ none_state) ⊎ (word ≡ refused_state)) × (now ≡ with_state (looked before t) word))
+    ⊎ ((word : ℕ) × ((word ≡ none_state) ⊎ (word ≡ refused_state)) × (now ≡ with_state (looked before t) t.number word))
 
 -- What a cancel answers is what the words were that it read; it is Done where its exchange found the timer armed.
 abbrev pub IsCancel : Kept → Ticket → Cancel → Kept → Type 0
 IsCancel before t Done now = (t.number < before.limits.timers)
-    × (now ≡ with_cancelled (with_state (looked before t) armed_state) t)
+    × (now ≡ with_cancelled (with_state (looked before t) t.number armed_state) t)
 IsCancel before t WasCancelled now = (t.number < before.limits.timers)
-    × (now ≡ with_was_cancelled (with_state (looked before t) cancelled_state) t)
+    × (now ≡ with_was_cancelled (with_state (looked before t) t.number cancelled_state) t)
 IsCancel before t WasFired now = (t.number < before.limits.timers)
-    × (now ≡ with_was_fired (with_state (looked before t) fired_state) t)
+    × (now ≡ with_was_fired (with_state (looked before t) t.number fired_state) t)
 IsCancel before t Unknown now = IsUnknown before t now
 
 -- the timer was not armed any more, by the state that was read
 abbrev pub IsNotRefused : Kept → Ticket → Kept → Type 0
-IsNotRefused before t now = (word : ℕ) × (word ≢ armed_state) × (now ≡ with_state before word)
+IsNotRefused before t now = (word : ℕ) × (word ≢ armed_state) × (now ≡ with_state before t.number word)
+
+abbrev pub firing : Ticket → ℕ → Firing
+firing t now = record { ticket = t; now = now }
+
+-- the seat has read the state of this number until it was not none
+abbrev pub HasWaited : Kept → ℕ → Kept → Type 0
+HasWaited before number k = (word reads : ℕ) × (word ≢ none_state) × (before.reads < reads)
+    × (k ≡ record before { state_of = number; state_word = word; reads = reads })
+
+-- The number is none of a timer; or the moment is another than the timer's, by the word that was read; or the timer was
+-- refused, cancelled or fired before, by the state that was read.
+abbrev pub IsDropped : Kept → Ticket → Kept → Type 0
+IsDropped before t now = ((before.limits.timers ≤ t.number) × (now ≡ before))
+    ⊎ ((k : Kept) × HasWaited before t.number k
+    × (((word : ℕ) × (word ≢ t.moment + 1) × (now ≡ with_moment k t.number word))
+    ⊎ ((word : ℕ) × (armed_state < word) × (word ≤ refused_state) × (now ≡ with_state (looked k t) t.number word))))
+
+-- The timer was armed, and is fired by this call alone.
+abbrev pub IsFired : Kept → Ticket → ℕ → Kept → Type 0
+IsFired before t at now = (t.number < before.limits.timers) × (k : Kept) × HasWaited before t.number k
+    × (now ≡ with_fired (with_state (looked k t) t.number armed_state) (firing t at))
 
 -- the seat armed this timer, and did not refuse it
 abbrev pub HasArmed : Kept → Ticket → Type 0

@@ -18,8 +18,8 @@ pub struct Firing {
 
 /// What a seat keeps: the limits of its table, and how many of its seats are this one; its arms, each with its moment
 /// and the number that it drew, and those whose state became armed; the timers that it refused, cancelled and fired;
-/// those that it found cancelled and fired by a ticket; and the number whose moment word it read last, that word, the
-/// state word that it read last, and how many words it read.
+/// those that it found cancelled and fired by a ticket; the number whose moment word it read last, and that word; the
+/// number whose state word it read last, and that word; and how many words it read.
 pub struct Kept {
     pub limits: TimerLimits,
     pub parts: u32,
@@ -32,6 +32,7 @@ pub struct Kept {
     pub was_fired: LinkedList<Ticket>,
     pub at: u32,
     pub moment_word: u64,
+    pub state_of: u32,
     pub state_word: u64,
     pub reads: u64,
 }

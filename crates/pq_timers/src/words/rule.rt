@@ -2,7 +2,7 @@
 ghost use Rattle.std.specs.Prelude.{ℕ};
 ghost use Rattle.pq_timers.specs.WordRules.{IsTimers, first_giver, dealt_one, one_part, views_joined, spent_view};
 ghost use Rattle.pq_timers.specs.WordRules.{drew, stored_moment, set_armed, saw_moment, tried_cancel, tried_refuse};
-ghost use Rattle.pq_timers.specs.WordRules.{learned};
+ghost use Rattle.pq_timers.specs.WordRules.{saw_state, tried_fire, learned};
 
 use super::kept::{TimerLimits, TimerView};
 use atomic_table::{Join, Play, Seat, Split, Table, TableRule};
@@ -57,7 +57,7 @@ impl Join<TimerView> for Together {
     ghost spent = { spent_view };
 }
 
-/// The moment of a timer. Whoever draws its number picks it.
+/// A moment. Whoever makes the step picks it.
 pub trait Moment {
     ghost moment: { ℕ };
 }
@@ -108,6 +108,22 @@ pub struct TryRefuse;
 
 impl Play<(), TimerView> for TryRefuse {
     ghost then = { λ st m found w. tried_refuse st m found w };
+}
+
+/// A load of a state word.
+pub struct SeeState;
+
+impl Play<(), TimerView> for SeeState {
+    ghost then = { λ st m found w. saw_state st m found w };
+}
+
+/// A step that fires a timer where it is armed, at this moment.
+pub struct TryFire<L> {
+    of: PhantomData<L>,
+}
+
+impl<L: Moment> Play<(), TimerView> for TryFire<L> {
+    ghost then = { λ st m found w. tried_fire st m found w L.moment };
 }
 
 /// A load at which a seat learns what the rule says of what it keeps.

@@ -1,6 +1,6 @@
 //! The table of timers and its seats.
 ghost use Rattle.std.specs.Prelude.{◌≡◌, ◌≢◌, ℕ, suc, ◌+◌, ◌*◌, ◌%◌, ◌^◌, ◌<◌, ◌≤◌, [], length, Contains};
-ghost use Rattle.std.specs.Prelude.{IfOk, IfErr, MatchBool, replicate};
+ghost use Rattle.std.specs.Prelude.{IfOk, IfErr, MatchBool, None, replicate};
 ghost use mathlib.Core.Option.{none};
 ghost use Rattle.atomic_table.specs.Table.{step};
 ghost use Rattle.pq_model.specs.Limits.{max_seats};
@@ -8,19 +8,23 @@ ghost use Rattle.pq_timers.specs.Limits.{max_timers, moment_limit, use_limit};
 ghost use Rattle.pq_timers.specs.Words.{IsSeatOf, new_timer_seat, armed_state, ticket, with_arm, with_armed};
 ghost use Rattle.pq_timers.specs.Words.{with_refused, with_state, kept_joined, HasArmed, IsCancel, IsNotRefused};
 ghost use Rattle.pq_timers.specs.Words.{answer_of, KnowsTimers};
-ghost use Rattle.pq_timers.specs.WordRules.{giver, first_giver, drew};
+ghost use Rattle.pq_timers.specs.Words.{looked, HasWaited, IsFired, IsDropped};
+ghost use Rattle.pq_timers.specs.WordRules.{giver, first_giver, drew, tried_fire};
+ghost use Rattle.pq_timers.specs.declared.words.kept.Kept.{Kept};
 ghost use Rattle.pq_timers.specs.declared.answers.Cancel.TheVariants as cancels;
 
 use super::kept::TimerLimits;
 use super::rule::{
-    ARMED, CANCELLED, Deal, DrawNumber, FIRED, Hand, Learn, Moment, REFUSED, SeeMoment, SetArmed,
-    StoreMoment, Together, TryCancel, TryRefuse, Words,
+    ARMED, CANCELLED, Deal, DrawNumber, FIRED, Hand, Learn, Moment, NONE, REFUSED, SeeMoment,
+    SeeState, SetArmed, StoreMoment, Together, TryCancel, TryFire, TryRefuse, Words,
 };
 use crate::answers::Cancel;
 use crate::ticket::Ticket;
+use crossbeam_utils::Backoff;
 use pq_io::NoMemory;
 use std::alloc::{AllocError, Global};
 use std::marker::{Brand, Model};
+use std::sync::Wait;
 
 /// The words of timers: a made word, and a moment word and a state word for each. Callers that each hold a seat share
 /// them.
@@ -184,13 +188,80 @@ impl TimerTable {
         requires armed { Contains seat.old.kept.armed ticket }
         ensures own { IsSeatOf self.now seat.new }
         ensures refused { MatchBool result
-            (seat.new.kept ≡ with_refused (with_state seat.old.kept armed_state) ticket)
+            (seat.new.kept ≡ with_refused (with_state seat.old.kept ticket.number armed_state) ticket)
             (IsNotRefused seat.old.kept ticket seat.new.kept) }
         ensures knows { KnowsTimers seat.new.kept }
     {
         let at = 2 * ticket.number as usize + 1;
         let words = &self.table.shared;
         words.compare_exchange::<TryRefuse>(&mut seat.seat, at + 1, ARMED, REFUSED) == ARMED
+    }
+
+    /// Fires the timer of the ticket where it is armed, at this moment, which is that of the ticket or later, and says
+    /// whether it was. Waits until the timer's state is stored. Takes no memory.
+    pub fn fire<R: Wait>(&self, rt: &R, seat: &mut TimerSeat, ticket: Ticket, now: u32) -> bool
+        requires own { IsSeatOf self.now seat.old }
+        requires due { ticket.moment ≤ now }
+        ensures own { IsSeatOf self.now seat.new }
+        ensures answer { MatchBool result
+            (IsFired seat.old.kept ticket now seat.new.kept) (IsDropped seat.old.kept ticket seat.new.kept) }
+    {
+        if ticket.number >= self.limits.timers {
+            return false;
+        }
+        self.wait_until_set(rt, seat, ticket.number);
+        let hand = &mut seat.seat;
+        let at = 2 * ticket.number as usize + 1;
+        if self.table.shared.load::<SeeMoment>(hand, at) != ticket.moment as u64 + 1 {
+            return false;
+        }
+        self.fire_as::<Brand>(hand, ticket, now) == ARMED
+    }
+
+    // Reads the state of a timer until it is not none.
+    fn wait_until_set<R: Wait>(&self, rt: &R, seat: &mut TimerSeat, number: u32)
+        requires own { IsSeatOf self.now seat.old }
+        requires within { number < self.now.limits.timers }
+        ensures own { IsSeatOf self.now seat.new }
+        ensures waited { HasWaited seat.old.kept number seat.new.kept }
+    {
+        let backoff = Backoff::new();
+        for _ in rt.forever() {
+            if self.state(seat, number) != NONE {
+                return;
+            }
+            backoff.snooze();
+        }
+        unreachable!()
+    }
+
+    // Reads the state of a timer.
+    fn state(&self, seat: &mut TimerSeat, number: u32) -> u64
+        requires own { IsSeatOf self.now seat.old }
+        requires within { number < self.now.limits.timers }
+        ensures own { IsSeatOf self.now seat.new }
+        ensures read { seat.new.kept ≡ with_state seat.old.kept number result }
+    {
+        let at = 2 * number as usize + 1;
+        self.table.shared.load::<SeeState>(&mut seat.seat, at + 1)
+    }
+
+    // Tries to fire the timer of the ticket, whose moment was read, and gives the state that was found.
+    fn fire_as<L: Moment>(&self, hand: &mut Hand, ticket: Ticket, now: u32) -> u64
+        requires own { hand.old.table_id ≡ self.now.table }
+        requires picked { L.moment ≡ now }
+        requires rests { (hand.old.me.0.arming ≡ None) × (0 < hand.old.me.0.kept.parts) }
+        requires within { ticket.number < self.now.limits.timers }
+        requires looked { (k : Kept) × (hand.old.me.0.kept ≡ looked k ticket) }
+        requires waited { (hand.old.me.0.kept.state_of ≡ ticket.number) × (hand.old.me.0.kept.state_word ≢ 0) }
+        requires due { ticket.moment ≤ now }
+        ensures own { hand.new.table_id ≡ hand.old.table_id }
+        ensures fired { tried_fire (step 0 0 0 0 none) hand.old.me result hand.new.me now }
+    {
+        let at = 2 * ticket.number as usize + 1;
+        self.table
+            .shared
+            .compare_exchange::<TryFire<L>>(hand, at + 1, ARMED, FIRED)
     }
 
     /// Adds what `other` did to `into`. Waits for nobody, and takes no memory.

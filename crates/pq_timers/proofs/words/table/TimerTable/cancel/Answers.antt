@@ -78,10 +78,10 @@ returns-clause-answer c =
     let looked_at : c.load.new.seat.me.0.kept ≡ looked c.seat.inside.seat.me.0.kept c.args.ticket = ap (λ (z : Hand). z.0.kept) seen ∙ ap (λ (n : ℕ). with_moment c.seat.inside.seat.me.0.kept c.args.ticket.number n) moment in
     let ticket_is : read_ticket c.load.new.seat.me.0.kept ≡ c.args.ticket = ap read_ticket looked_at ∙ read_back c.seat.inside.seat.me.0.kept c.args.ticket in
     let now : c.compare_exchange.new.seat.me.0.kept ≡ cancelling (looked c.args.seat.now.kept c.args.ticket) c.args.ticket found =
-        ap (λ (z : Hand). z.0.kept) is.0 ∙ ((λ i. cancelling (looked_at i) (ticket_is i) found) ∙ ap (λ (k : Kept). cancelling (looked k c.args.ticket) c.args.ticket found) before) in
+    ap (λ (z : Hand). z.0.kept) is.0 ∙ ((λ i. cancelling (looked_at i) (ticket_is i) found) ∙ ap (λ (k : Kept). cancelling (looked k c.args.ticket) c.args.ticket found) before) in
     let same = ap (λ (l : TimerLimits). l.timers) (c.requires.own.1 ∙ sym (ap (λ (z : TimersSeen). z.limits) c.self.view_is)) in let within = c.if-ticket-self.false in
     subst (λ (z : Cancel × Kept). IsCancel c.args.seat.now.kept c.args.ticket z.0 z.1) (λ i. (sym c.cancel_of.ensures i, sym now i))
-        (answered c.args.seat.now.kept c.args.ticket found is.2 (omega arith))
+    (answered c.args.seat.now.kept c.args.ticket found is.2 (omega arith))
 
 pub returns-clause-known : goal.returns-clause-known
 returns-clause-known c has e =

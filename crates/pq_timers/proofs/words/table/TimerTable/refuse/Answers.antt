@@ -2,7 +2,6 @@
 use Rattle.std.proofs.Common.{◌<◌, ap, ◌∙◌, sym, subst, refl, arith}
 use Rattle.std.specs.Prelude.{Contains}
 use Rattle.pq_timers.specs.declared.words.kept.TimerLimits.{TimerLimits}
-
 use Rattle.pq_timers.specs.Words.{TimersSeen, TimerSeated}
 use Rattle.pq_timers.proofs.Hands.{rests_on, refused_keeps}
 use Rattle.pq_timers.proofs.Steps.{tries_refuse}
