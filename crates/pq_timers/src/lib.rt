@@ -4,6 +4,8 @@
 
 mod answers;
 mod limits;
+#[cfg(test)]
+mod tests;
 mod ticket;
 mod words;
 
