@@ -16,8 +16,8 @@ use Rattle.bb_shared.specs.declared.store.stored.Numbered.{Numbered}
 use Rattle.bb_shared.specs.declared.store.stored.Stored.{Stored}
 use Rattle.bb_shared.specs.declared.store.stored.StoreView.{StoreView}
 use Rattle.bb_shared.specs.Limits.{asked_limit}
-use Rattle.bb_shared.specs.Stores.{full_word, numbered, attempt, new_stored, stores_joined, with_draw, with_put, with_take}
-use Rattle.bb_shared.specs.Stores.{times, KnowsStore}
+use Rattle.bb_shared.specs.Stores.{full_word, numbered, attempt, new_stored, stores_joined}
+use Rattle.bb_shared.specs.Stores.{with_draw, with_put, with_take, times, KnowsStore}
 
 -- 1 where a number's word says that its node is being put
 abbrev pub is_putting : ℕ → ℕ
@@ -81,8 +81,8 @@ module _ {N : Type 0} where
     pub puts : (p : Numbered N) → Contains v.kept.puts p → node_of p.number ≡ Some p.node
     pub takes : (p : Numbered N) → Contains v.kept.takes p → node_of p.number ≡ Some p.node
 
-  -- The seats draw each number below the made word once. Each number's word tells how often it was put and taken by all. Each number has one node, which lies in its
-  -- slot while its word is full.
+  -- The seats draw each number below the made word once. Each number's word tells how often it was put and taken by
+  -- all. Each number has one node, which lies in its slot while its word is full.
   pub record IsStore (seats : ℕ) (s : State (Option N) (StoreView N)) : Type 0 where
     pub few : seats ≤ max_seats
     pub wide : length s.words ≡ suc (length s.homes)

@@ -86,7 +86,8 @@ pub record IsFree {N : Type 0} (s : Stored N) (number : ℕ) : Type 0 where
 -- keeps what it kept.
 abbrev pub IsMissed : {N : Type 0} → ℕ → StoreSeated N → ℕ → StoreSeated N → Type 0
 IsMissed nodes before number now = ((nodes ≤ number) × (now ≡ before))
-    ⊎ ((word : ℕ) × (word ≢ full_word) × (now ≡ record before { attempts = before.attempts ++ attempt number word ∷ [] }))
+    ⊎ ((word : ℕ) × (word ≢ full_word)
+    × (now ≡ record before { attempts = before.attempts ++ attempt number word ∷ [] }))
 
 abbrev pub number_of : {N : Type 0} → Numbered N → ℕ
 number_of p = p.number

@@ -1,8 +1,8 @@
 -- How often numbers are among tickets and states, and where the words of a timer stand.
-use Rattle.std.proofs.Common.{◌≡◌, ◌≢◌, ℕ, zero, suc, ◌+◌, ◌*◌, ◌<◌, ◌≤◌, eqb, ltb, List, [], ◌∷◌, ◌++◌, length, map, refl, sym, ap, ◌∙◌, subst, arith, true, false, Bool, cond, Some, None, Option}
-use Rattle.std.specs.Prelude.{sum_by, Contains}
+use Rattle.std.proofs.Common.{◌≡◌, ◌≢◌, ℕ, zero, suc, ◌+◌, ◌*◌, ◌<◌, ◌≤◌, eqb, List, [], ◌∷◌, ◌++◌, length, map, refl, ap, arith, true}
+use Rattle.std.specs.Prelude.{sum_by}
 use Rattle.std.proofs.lemmas.Bool.{lt-ltb, le-ltb}
-use Rattle.std.proofs.lemmas.List.Sums.{sum_by-cons, sum_by_push}
+use Rattle.std.proofs.lemmas.List.Sums.{sum_by-cons}
 use mathlib.Core.Logic.{dite}
 use native.Mathlib.Decide.{ℕ_discrete, dec_lt}
 use Rattle.pq_numbers.specs.declared.draws.Draw.{Draw}
@@ -10,7 +10,7 @@ use Rattle.pq_numbers.specs.Draws.{times_drawn, drawn_in_all, draw_of}
 use Rattle.pq_numbers.proofs.Counts.{one_if, same_one, other_none, in_draw, in_next_draw, times-cons}
 use Rattle.pq_timers.specs.declared.ticket.Ticket.{Ticket}
 use Rattle.pq_timers.specs.Words.{number_of, times}
-use Rattle.pq_timers.specs.WordRules.{arm_draw, is_in, is_set, state_at, moment_at, times_in}
+use Rattle.pq_timers.specs.WordRules.{arm_draw, is_in, is_set, state_at, moment_at}
 
 -- a draw of one number has this number, or none
 one_draw : (x n : ℕ) → in_draw x (draw_of n 1 true) ≡ one_if (eqb n x)

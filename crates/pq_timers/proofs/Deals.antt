@@ -1,22 +1,18 @@
 -- The seats of a timers' table are dealt and joined, and the rule holds when it opens.
-use Rattle.std.proofs.Common.{◌≡◌, ℕ, zero, suc, ◌+◌, ◌-◌, ◌*◌, ◌<◌, ◌≤◌, [], ◌∷◌, ◌++◌, List, length, map, get_or, set, replicate, sym, refl, ap, ◌∙◌, subst, ⊎_elim, arith}
-use Rattle.std.specs.Prelude.{None, Some, Option, Contains, sum_by}
+use Rattle.std.proofs.Common.{◌≡◌, ℕ, zero, suc, ◌+◌, ◌-◌, ◌*◌, ◌<◌, ◌≤◌, [], ◌∷◌, ◌++◌, List, length, get_or, set, replicate, sym, refl, ap, ◌∙◌, subst, ⊎_elim, arith}
+use Rattle.std.specs.Prelude.{None, Some, sum_by}
 use Rattle.std.proofs.lemmas.List.{length-replicate, map-append}
 use Rattle.std.proofs.lemmas.List.Elements.{Contains-append_cases}
-use mathlib.Core.Option.{some}
-use lib.ListN.{get_elem?}
-use Rattle.atomic_table.specs.Table.{State, Splits, Joins, opening}
-use Rattle.pq_numbers.specs.Draws.{times_of}
+use Rattle.atomic_table.specs.Table.{Splits, Joins, opening}
 use Rattle.pq_numbers.specs.Tables.{AreDrawn}
 use Rattle.pq_numbers.proofs.Sums.{sum_split, sum_joined, each_split, each_joined, at_before, one_view}
 use Rattle.pq_numbers.proofs.Counts.{times-append}
 use Rattle.pq_numbers.proofs.Tables as tables
 use Rattle.pq_timers.specs.declared.ticket.Ticket.{Ticket}
-use Rattle.pq_timers.specs.declared.words.kept.Firing.{Firing}
 use Rattle.pq_timers.specs.declared.words.kept.TimerLimits.{TimerLimits}
 use Rattle.pq_timers.specs.declared.words.kept.TimerView.{TimerView}
 use Rattle.pq_timers.specs.Words.{number_of, fired_number, times}
-use Rattle.pq_timers.specs.WordRules.{timer_kind, arm_draw, is_in, is_set, state_at, moment_at, times_in, armed_by, refused_by, cancelled_by, fired_by, arming_by, IsMeant, AreMeant, FitsTimers, IsTimers, giver, first_giver, dealt_one, one_part, views_joined, spent_view}
+use Rattle.pq_timers.specs.WordRules.{timer_kind, arm_draw, is_in, is_set, state_at, moment_at, times_in, armed_by, refused_by, cancelled_by, fired_by, arming_by, AreMeant, FitsTimers, IsTimers, giver, first_giver, dealt_one, one_part, views_joined, spent_view}
 
 get_or-replicate_zero : (n j : ℕ) → get_or {A = ℕ} (replicate n 0) j 0 ≡ 0
 get_or-replicate_zero zero j = refl

@@ -1,10 +1,10 @@
 -- What a seat knows wherever the rule of its table holds.
-use Rattle.std.proofs.Common.{◌≡◌, ◌≢◌, ℕ, zero, suc, ◌+◌, ◌*◌, ◌<◌, ◌≤◌, ltb, List, length, get_or, sym, refl, ap, ◌∙◌, subst, arith, Some, None}
+use Rattle.std.proofs.Common.{◌≡◌, ◌≢◌, ℕ, ◌*◌, ◌<◌, ◌≤◌, ltb, length, get_or, sym, ap, ◌∙◌, subst, arith, None}
 use Rattle.std.specs.Prelude.{Contains, sum_by}
-use Rattle.std.proofs.lemmas.Bool.{lt-ltb, le-ltb}
+use Rattle.std.proofs.lemmas.Bool.{lt-ltb}
 use mathlib.Core.Option.{some}
 use mathlib.Core.Logic.{dite}
-use native.Mathlib.Decide.{ℕ_discrete, dec_lt}
+use native.Mathlib.Decide.{ℕ_discrete}
 use lib.ListN.{get_elem?}
 use Rattle.atomic_table.specs.Table.{State}
 use Rattle.pq_numbers.specs.Draws.{times_drawn, drawn_in_all, times_of}
@@ -12,12 +12,11 @@ use Rattle.pq_numbers.proofs.Sums.{one-le-sum, one_at, sum-le, sum_none, two-le-
 use Rattle.pq_numbers.proofs.Counts.{one_if, one_if-le, times-contains, contains-times}
 use Rattle.pq_numbers.proofs.Tables as tables
 use Rattle.pq_timers.specs.declared.ticket.Ticket.{Ticket}
-use Rattle.pq_timers.specs.declared.words.kept.Firing.{Firing}
 use Rattle.pq_timers.specs.declared.words.kept.TimerLimits.{TimerLimits}
 use Rattle.pq_timers.specs.declared.words.kept.TimerView.{TimerView}
 use Rattle.pq_timers.specs.Words.{number_of, fired_number, times, HasArmed, KnowsAll, KnowsTimers}
-use Rattle.pq_timers.specs.WordRules.{timer_kind, is_in, is_set, state_at, moment_at, times_in, armed_by, refused_by, cancelled_by, fired_by, arming_by, IsMeant, FitsTimers, IsTimers}
-use Rattle.pq_timers.proofs.Counted.{drawn_times, drawn_length, sum-scaled, one_end, in_some, set-le, is_in-le}
+use Rattle.pq_timers.specs.WordRules.{timer_kind, is_in, is_set, state_at, times_in, armed_by, refused_by, cancelled_by, fired_by, arming_by, IsMeant, IsTimers}
+use Rattle.pq_timers.proofs.Counted.{drawn_times, drawn_length, sum-scaled, one_end, set-le}
 
 -- two tickets of one number are one, as both have the timer's moment
 pub one_ticket : (made : ℕ) (moment_of : ℕ → ℕ) (t u : Ticket) → IsMeant made moment_of t → IsMeant made moment_of u → t.number ≡ u.number → t ≡ u

@@ -1,8 +1,9 @@
 -- The rule of a timers' table, and what each of its steps tells.
--- Word 0, the made word, counts the numbers that were drawn. The timer x has its moment word at 2 * x + 1, which is 0 or
--- the moment plus 1, and its state word behind that: 0 none, 1 armed, 2 cancelled, 3 fired, 4 refused.
-use Rattle.std.specs.Prelude.{ℕ, zero, suc, ◌≡◌, ◌≢◌, ◌+◌, ◌-◌, ◌*◌, ◌^◌, ◌<◌, ◌≤◌, ◌==◌, nat_lt, if◌then◌else◌, true, false}
-use Rattle.std.specs.Prelude.{List, [], ◌∷◌, ◌++◌, length, map, Contains, slice_index, Option, Some, None}
+-- Word 0, the made word, counts the numbers that were drawn. The timer x has its moment word at 2 * x + 1, which is 0
+-- or the moment plus 1, and its state word behind that: 0 none, 1 armed, 2 cancelled, 3 fired, 4 refused.
+use Rattle.std.specs.Prelude.{ℕ, zero, suc, ◌≡◌, ◌≢◌, ◌+◌, ◌-◌, ◌*◌, ◌^◌, ◌<◌, ◌≤◌}
+use Rattle.std.specs.Prelude.{◌==◌, nat_lt, if◌then◌else◌, true, false}
+use Rattle.std.specs.Prelude.{List, [], length, map, Contains, slice_index, Option, Some, None}
 use mathlib.Core.Option.{some}
 use lib.ListN.{get_elem?}
 use Rattle.atomic_table.specs.Table.{State, Me, Step}
@@ -15,10 +16,11 @@ use Rattle.pq_timers.specs.declared.words.kept.Firing.{Firing}
 use Rattle.pq_timers.specs.declared.words.kept.Kept.{Kept}
 use Rattle.pq_timers.specs.declared.words.kept.TimerLimits.{TimerLimits}
 use Rattle.pq_timers.specs.declared.words.kept.TimerView.{TimerView}
-use Rattle.pq_timers.specs.Limits.{max_timers, moment_limit, use_limit}
+use Rattle.pq_timers.specs.Limits.{max_timers, use_limit}
 use Rattle.pq_timers.specs.Words.{armed_state, cancelled_state, fired_state, refused_state, ticket, fired_number, times}
 use Rattle.pq_timers.specs.Words.{new_kept, with_arm, with_armed, with_refused, with_cancelled, with_fired}
-use Rattle.pq_timers.specs.Words.{with_was_cancelled, with_was_fired, with_moment, with_state, kept_joined, firing, HasArmed}
+use Rattle.pq_timers.specs.Words.{with_was_cancelled, with_was_fired, with_moment, with_state}
+use Rattle.pq_timers.specs.Words.{kept_joined, firing, HasArmed}
 use Rattle.pq_timers.specs.Words.{KnowsTimers}
 
 abbrev pub moment_at : ℕ → ℕ

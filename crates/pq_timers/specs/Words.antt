@@ -1,5 +1,6 @@
 -- What a seat of a timers' table keeps, and what its steps make of it.
-use Rattle.std.specs.Prelude.{ℕ, ◌≡◌, ◌≢◌, ◌⊎◌, ◌+◌, ◌<◌, ◌≤◌, ◌==◌, nat_lt, if◌then◌else◌, List, [], ◌∷◌, ◌++◌, length, Contains}
+use Rattle.std.specs.Prelude.{ℕ, ◌≡◌, ◌≢◌, ◌⊎◌, ◌+◌, ◌<◌, ◌≤◌}
+use Rattle.std.specs.Prelude.{◌==◌, nat_lt, if◌then◌else◌, List, [], ◌∷◌, ◌++◌, length, Contains}
 use Rattle.atomic_table.specs.Seated.{TableId}
 use Rattle.pq_numbers.specs.Draws.{times_of}
 use Rattle.pq_timers.specs.declared.ticket.Ticket.{Ticket}

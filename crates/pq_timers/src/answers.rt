@@ -9,7 +9,7 @@ pub enum Cancel {
     WasFired,
     /// The timer was cancelled before.
     WasCancelled,
-    /// No timer is armed under this ticket: its number is not one of a timer, its moment is another than the timer's, or
+    /// No timer is armed under this ticket: its number is none of a timer, its moment is another than the timer's, or
     /// the timer is not armed yet or was refused.
     Unknown,
 }

@@ -1,11 +1,11 @@
 -- The number is drawn, and its timer gets its moment and then its state.
-use Rattle.std.proofs.Common.{◌≡◌, ℕ, ◌<◌, ◌≤◌, ap, ◌∙◌, sym, subst, refl, arith, Some}
+use Rattle.std.proofs.Common.{◌<◌, ap, ◌∙◌, sym, subst, arith}
 use Rattle.pq_timers.specs.declared.words.kept.TimerLimits.{TimerLimits}
-use Rattle.pq_timers.specs.declared.words.kept.TimerView.{TimerView}
 use Rattle.pq_timers.specs.Words.{TimersSeen, TimerSeated, ticket, with_armed}
 use Rattle.pq_timers.specs.WordRules.{AreTimers, drawn_view}
 use Rattle.pq_timers.proofs.Hands.{Hand, spent_idle, timer_arming, more_timers}
-use Rattle.pq_timers.proofs.Steps.{stores_moment, sets_armed}
+use Rattle.pq_timers.proofs.Drawing.{stores_moment}
+use Rattle.pq_timers.proofs.Setting.{sets_armed}
 use Rattle.pq_timers.proofs.words.table.TimerTable.arm.Goals as goal
 
 pub invariant_of-seat : goal.invariant_of-seat

@@ -1,6 +1,6 @@
 -- A fresh table is under the rule.
-use Rattle.std.proofs.Common.{◌≡◌, ◌+◌, ◌*◌, ℕ, sym, ap, ◌∙◌, subst, arith, refl}
-use Rattle.std.specs.Prelude.{List, [], replicate}
+use Rattle.std.proofs.Common.{◌+◌, ◌*◌, ℕ, sym, ◌∙◌, subst, arith, refl}
+use Rattle.std.specs.Prelude.{List, []}
 use Rattle.atomic_table.specs.Table.{opening}
 use Rattle.pq_timers.specs.WordRules.{IsTimers, first_giver}
 use Rattle.pq_timers.proofs.Deals.{opens}

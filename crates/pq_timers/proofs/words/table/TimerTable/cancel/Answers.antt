@@ -1,14 +1,14 @@
 -- The moment word is read, and then the state exchanged where it is armed.
-use Rattle.std.proofs.Common.{◌≡◌, ◌≢◌, ℕ, ◌<◌, ◌≤◌, ◌+◌, ap, ◌∙◌, sym, subst, refl, inl, inr, arith}
+use Rattle.std.proofs.Common.{◌≡◌, ℕ, ap, ◌∙◌, sym, subst, refl, inl, inr, arith}
 use Rattle.pq_timers.specs.declared.words.kept.TimerLimits.{TimerLimits}
 use Rattle.pq_timers.specs.declared.words.kept.Kept.{Kept}
 use Rattle.pq_timers.specs.declared.ticket.Ticket.{Ticket}
 use Rattle.pq_timers.specs.declared.answers.Cancel.{Cancel}
-use Rattle.pq_timers.specs.declared.answers.Cancel.TheVariants.{Unknown}
 use Rattle.pq_timers.specs.Words.{TimersSeen, TimerSeated, HasArmed, IsCancel, with_moment, looked}
 use Rattle.pq_timers.specs.WordRules.{read_ticket, cancelling}
 use Rattle.pq_timers.proofs.Hands.{Hand, rests_on, seen_keeps, cancelled_keeps, both_keep, read_back, answered, is_known}
-use Rattle.pq_timers.proofs.Steps.{sees_moment, tries_cancel}
+use Rattle.pq_timers.proofs.Reading.{sees_moment}
+use Rattle.pq_timers.proofs.Cancelling.{tries_cancel}
 use Rattle.pq_timers.proofs.words.table.TimerTable.cancel.Goals as goal
 
 pub returns-then-ticket-self-clause-known : goal.returns-then-ticket-self-clause-known

@@ -4,7 +4,7 @@ use mathlib.Core.Option.{none}
 use Rattle.atomic_table.specs.Table.{Allows, step}
 use Rattle.pq_timers.specs.Words.{TimersSeen}
 use Rattle.pq_timers.specs.WordRules.{IsTimers, drew}
-use Rattle.pq_timers.proofs.Steps.{draws}
+use Rattle.pq_timers.proofs.Drawing.{draws}
 use Rattle.pq_timers.proofs.words.table.TimerTable.draw_as.Goals as goal
 
 pub fetch_add-requires : goal.fetch_add-requires

@@ -1,12 +1,11 @@
 -- The state is read until it is set, then the moment word, and then the state is exchanged where it is armed.
-use Rattle.std.proofs.Common.{◌≡◌, ◌≢◌, ℕ, ◌<◌, ◌≤◌, ◌+◌, ap, ◌∙◌, sym, subst, refl, inl, inr, arith}
-use Rattle.std.specs.Prelude.{Bool}
+use Rattle.std.proofs.Common.{◌≡◌, ℕ, ap, ◌∙◌, sym, refl, inl, inr, arith}
 use Rattle.pq_timers.specs.declared.words.kept.TimerLimits.{TimerLimits}
 use Rattle.pq_timers.specs.declared.words.kept.Kept.{Kept}
 use Rattle.pq_timers.specs.Words.{TimersSeen, TimerSeated, with_moment, with_state, with_fired, firing, looked}
 use Rattle.pq_timers.specs.WordRules.{read_ticket}
 use Rattle.pq_timers.proofs.Hands.{Hand, rests_on, seen_keeps, fired_keeps, both_keep, read_back, fired_or_dropped}
-use Rattle.pq_timers.proofs.Steps.{sees_moment}
+use Rattle.pq_timers.proofs.Reading.{sees_moment}
 use Rattle.pq_timers.proofs.words.table.TimerTable.fire.Goals as goal
 
 pub load-requires : goal.load-requires

@@ -1,5 +1,5 @@
 -- The state is exchanged where it is armed.
-use Rattle.std.proofs.Common.{◌≡◌, ◌≤◌, ◌+◌, ◌-◌, ℕ, Bool, ap, ◌∙◌, sym, subst, arith, eqb}
+use Rattle.std.proofs.Common.{ℕ, ap, ◌∙◌, sym, subst, arith, eqb}
 use mathlib.Core.Option.{none}
 use prog.Atomic.{either}
 use Rattle.atomic_table.specs.Table.{Allows, step}
@@ -7,7 +7,7 @@ use Rattle.pq_timers.specs.declared.words.kept.Kept.{Kept}
 use Rattle.pq_timers.specs.declared.words.kept.TimerLimits.{TimerLimits}
 use Rattle.pq_timers.specs.Words.{TimersSeen}
 use Rattle.pq_timers.specs.WordRules.{IsTimers, state_at, tried_fire}
-use Rattle.pq_timers.proofs.Steps.{tries_fire}
+use Rattle.pq_timers.proofs.Ending.{tries_fire}
 use Rattle.pq_timers.proofs.words.table.TimerTable.fire_as.Goals as goal
 
 pub compare_exchange-requires : goal.compare_exchange-requires

@@ -4,7 +4,7 @@ use Rattle.pq_timers.specs.Words.{TimersSeen, TimerSeated}
 use Rattle.pq_timers.specs.WordRules.{AreTimers}
 use Rattle.pq_timers.proofs.Hands.{Hand, joined_timers}
 use Rattle.pq_timers.proofs.Deals.{joins}
-use Rattle.pq_timers.proofs.Steps.{learns}
+use Rattle.pq_timers.proofs.Reading.{learns}
 use Rattle.pq_timers.proofs.words.table.TimerTable.join.Goals as goal
 
 pub join_seat-requires : goal.join_seat-requires

@@ -1,10 +1,10 @@
 -- The state is exchanged where it is armed.
-use Rattle.std.proofs.Common.{◌<◌, ap, ◌∙◌, sym, subst, refl, arith}
+use Rattle.std.proofs.Common.{ap, ◌∙◌, sym, subst, refl, arith}
 use Rattle.std.specs.Prelude.{Contains}
 use Rattle.pq_timers.specs.declared.words.kept.TimerLimits.{TimerLimits}
 use Rattle.pq_timers.specs.Words.{TimersSeen, TimerSeated}
 use Rattle.pq_timers.proofs.Hands.{rests_on, refused_keeps}
-use Rattle.pq_timers.proofs.Steps.{tries_refuse}
+use Rattle.pq_timers.proofs.Ending.{tries_refuse}
 use Rattle.pq_timers.proofs.words.table.TimerTable.refuse.Goals as goal
 
 pub compare_exchange-requires : goal.compare_exchange-requires

@@ -1,9 +1,8 @@
 -- The state word is loaded.
 use Rattle.std.proofs.Common.{ap, ◌∙◌, sym, refl, arith}
-use Rattle.pq_timers.specs.declared.words.kept.TimerLimits.{TimerLimits}
 use Rattle.pq_timers.specs.Words.{TimersSeen, TimerSeated, with_state}
 use Rattle.pq_timers.proofs.Hands.{Hand, rests_on, state_keeps}
-use Rattle.pq_timers.proofs.Steps.{sees_state}
+use Rattle.pq_timers.proofs.Reading.{sees_state}
 use Rattle.pq_timers.proofs.words.table.TimerTable.state.Goals as goal
 
 pub load-requires : goal.load-requires
