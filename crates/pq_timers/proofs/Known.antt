@@ -63,6 +63,10 @@ module _ {S : Type 0} (limits : TimerLimits) (s : State S TimerView) (h : IsTime
           let tiled = tables.tiled timer_kind limits.seats made s.views h.numbers id v at (whole ∙ ap (λ (l : TimerLimits). l.seats) is) in
           let drawn : (x : ℕ) → times x v.kept.arms ≡ one_if (ltb x (length v.kept.arms)) = λ x. sym (drawn_times x v.kept.arms) ∙ (tiled x ∙ ap (λ n. one_if (ltb x n)) (drawn_length v.kept.arms)) in
           let counted : made ≡ length v.kept.arms = h.numbers.counted ∙ (alone (λ (u : TimerView). drawn_in_all (timer_kind.draws u)) whole (λ j u there z. ap drawn_in_all (h.numbers.idle j u there z)) ∙ drawn_length v.kept.arms) in
+          let from_arms : (t : Ticket) → IsMeant made h.moment_of t → Contains v.kept.arms t = λ t meant.
+          let a = drawn t.number in let b = ap one_if (lt-ltb t.number (length v.kept.arms) (let lt = meant.0 in omega arith)) in
+          let e = contains-times number_of t.number v.kept.arms (omega arith) in
+          subst (Contains v.kept.arms) (one_ticket made h.moment_of e.entry t (f.arms e.entry e.within) meant e.is) e.within in
           record {
             drawn = drawn;
             was_cancelled = λ t c.
@@ -77,11 +81,9 @@ module _ {S : Type 0} (limits : TimerLimits) (s : State S TimerView) (h : IsTime
                 let b = h.fired t.number in let d = ap (is_in 3) known.1 in
                 let e = contains-times fired_number t.number v.kept.fired (omega arith) in
                 (e.entry, e.within, one_ticket made h.moment_of e.entry.ticket t (f.fired e.entry e.within).0 known.0 e.is);
-            from_arms = λ t c.
-                let known = f.cancelled t c in
-                let a = drawn t.number in let b = ap one_if (lt-ltb t.number (length v.kept.arms) (let lt = known.0 in omega arith)) in
-                let e = contains-times number_of t.number v.kept.arms (omega arith) in
-                subst (Contains v.kept.arms) (one_ticket made h.moment_of e.entry t (f.arms e.entry e.within) known e.is) e.within;
+            cancelled_from = λ t c. from_arms t (f.cancelled t c);
+            refused_from = λ t c. from_arms t (f.refused t c);
+            fired_from = λ g c. let meant = f.fired g c in (from_arms g.ticket meant.0, meant.1);
             all_armed = λ t c within.
                 let a = f.own t.number (let l = ap (λ (l : TimerLimits). l.timers) is in omega arith) in let b : arming_by t.number v ≡ 0 = ap (times_in t.number) quiet in
                 let m = times-contains number_of v.kept.arms t c in

@@ -174,13 +174,16 @@ IsFired before t at now = (t.number < before.limits.timers) × (k : Kept) × Has
 abbrev pub HasArmed : Kept → Ticket → Type 0
 HasArmed k t = Contains k.armed t × (Contains k.refused t → ⊥)
 
--- Once all seats are joined: the arms drew the numbers from 0 on, each once, and each timer that was found fired or
--- cancelled by a ticket is one that was fired or cancelled.
+-- Once all seats are joined: the arms drew the numbers from 0 on, each once; each timer that was found fired or
+-- cancelled by a ticket is one that was fired or cancelled; and none was fired before its moment.
 pub record KnowsAll (k : Kept) : Type 0 where
   pub drawn : (x : ℕ) → times x k.arms ≡ (if nat_lt x (length k.arms) then 1 else 0)
   pub was_cancelled : (t : Ticket) → Contains k.was_cancelled t → Contains k.cancelled t
   pub was_fired : (t : Ticket) → Contains k.was_fired t → (f : Firing) × Contains k.fired f × (f.ticket ≡ t)
-  pub from_arms : (t : Ticket) → Contains k.cancelled t → Contains k.arms t
+  -- each timer that ended is one that was armed, at the moment that its arm was asked for
+  pub cancelled_from : (t : Ticket) → Contains k.cancelled t → Contains k.arms t
+  pub refused_from : (t : Ticket) → Contains k.refused t → Contains k.arms t
+  pub fired_from : (f : Firing) → Contains k.fired f → Contains k.arms f.ticket × (f.ticket.moment ≤ f.now)
   -- each timer whose number was drawn was armed
   pub all_armed : (t : Ticket) → Contains k.arms t → t.number < k.limits.timers → Contains k.armed t
 
