@@ -5,9 +5,10 @@ use Rattle.std.specs.Str.{bytes_eq}
 use Rattle.clap.specs.Walk.{Row, Text, has_row, first_of}
 use Rattle.cli_words.specs.declared.command.Branching.{Branching}
 use Rattle.cli_words.specs.declared.command.Kind.{Kind}
-use Rattle.cli_words.specs.declared.command.Which.{Which}
+use Rattle.cli_words.specs.declared.queues.Which.{Which}
 use Rattle.cli_words.specs.declared.settings.Settings.{Settings}
-use Rattle.cli_words.specs.Words.{◌>>=◌, kind_of, which_of, branching_of, number_in}
+use Rattle.cli_words.specs.Queues.{which_of}
+use Rattle.cli_words.specs.Words.{◌>>=◌, kind_of, branching_of, number_in}
 use Rattle.cli_words.specs.Sayings.{Saying, Named, Valued, named, values_of, Becomes, AreKnown}
 use Rattle.cli_words.specs.CommandWords.{nothing}
 use Rattle.cli_words.specs.Parser.{read_of, settings_in}

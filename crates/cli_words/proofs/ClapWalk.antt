@@ -11,7 +11,8 @@ use Rattle.clap.specs.declared.error.kind.ErrorKind.{ErrorKind}
 use Rattle.clap.specs.declared.error.kind.ErrorKind.TheVariants.{UnknownArgument}
 use Rattle.cli_words.specs.declared.settings.Settings.{Settings}
 use Rattle.cli_words.specs.declared.command.Kind.{Kind}
-use Rattle.cli_words.specs.Words.{◌>>=◌, once, kind_of, which_of, branching_of, number_in, behind_dashes, pair_name, with_kind, with_option, with_lone, settings_from}
+use Rattle.cli_words.specs.Queues.{which_of}
+use Rattle.cli_words.specs.Words.{◌>>=◌, once, kind_of, branching_of, number_in, behind_dashes, pair_name, with_kind, with_option, with_lone, settings_from}
 use Rattle.cli_words.specs.Words.{with_queue, with_workers, with_nodes, with_capacity, with_branching, with_seed, with_size}
 use Rattle.cli_words.specs.CommandWords.{nothing}
 use Rattle.cli_words.specs.Sayings.{IsOptionName}

@@ -7,9 +7,10 @@ use Rattle.std.specs.Str.{bytes_eq}
 use Rattle.pq_io.proofs.Taken.{same_word}
 use Rattle.cli_words.specs.declared.command.Branching.{Branching}
 use Rattle.cli_words.specs.declared.command.Kind.{Kind}
-use Rattle.cli_words.specs.declared.command.Which.{Which}
+use Rattle.cli_words.specs.declared.queues.Which.{Which}
 use Rattle.cli_words.specs.declared.settings.Settings.{Settings}
-use Rattle.cli_words.specs.Words.{◌>>=◌, once, kind_of, which_of, number_in, branching_of, with_kind, with_queue, with_workers, with_nodes, with_capacity, with_branching, with_seed, with_size, with_option, with_lone, with_last, with_body, with_split, after_two, unless_split, behind_dashes, split_at_equals, pair_name, settings_from}
+use Rattle.cli_words.specs.Queues.{which_of}
+use Rattle.cli_words.specs.Words.{◌>>=◌, once, kind_of, number_in, branching_of, with_kind, with_queue, with_workers, with_nodes, with_capacity, with_branching, with_seed, with_size, with_option, with_lone, with_last, with_body, with_split, after_two, unless_split, behind_dashes, split_at_equals, pair_name, settings_from}
 use Rattle.cli_words.specs.Sayings.{Saying, Named, Valued, HasNoEquals, IsOption, Say, named, values_of, Becomes, IsOptionName, AreSettings, AreSaid}
 use Rattle.cli_words.proofs.WordSteps.{lone_step, pair_step}
 

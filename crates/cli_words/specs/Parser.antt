@@ -16,7 +16,8 @@ use Rattle.cli_words.specs.declared.settings.Settings.{Settings}
 use Rattle.cli_words.specs.declared.reading.WordsRefusal.{WordsRefusal}
 use Rattle.cli_words.specs.declared.reading.WordsRefusal.TheVariants.{BadWords, NoMemory}
 use Rattle.cli_words.specs.CommandWords.{command_from}
-use Rattle.cli_words.specs.Words.{◌>>=◌, kind_of, which_of, branching_of, number_in}
+use Rattle.cli_words.specs.Queues.{which_of}
+use Rattle.cli_words.specs.Words.{◌>>=◌, kind_of, branching_of, number_in}
 
 -- an option: a text, which is given at most once
 abbrev pub option_rule : Text → Rule

@@ -3,7 +3,8 @@ use Rattle.std.specs.Prelude.{ℕ, ◌≡◌, ◌==◌, ◌⊎◌, false, List, 
 use Rattle.std.specs.List.{AllByRecursion}
 use Rattle.std.specs.Str.{bytes_eq}
 use Rattle.cli_words.specs.declared.settings.Settings.{Settings}
-use Rattle.cli_words.specs.Words.{kind_of, which_of, number_in, branching_of, behind_dashes}
+use Rattle.cli_words.specs.Queues.{which_of}
+use Rattle.cli_words.specs.Words.{kind_of, number_in, branching_of, behind_dashes}
 
 -- a problem's name, or an option's name and its value
 pub data Saying : Type 0 where

@@ -8,9 +8,8 @@ use Rattle.cli_words.specs.declared.command.Kind.{Kind}
 use Rattle.cli_words.specs.declared.command.Kind.TheVariants.{Knapsack, Shop}
 use Rattle.cli_words.specs.declared.command.Branching.{Branching}
 use Rattle.cli_words.specs.declared.command.Branching.TheVariants.{Dispatch, Active}
-use Rattle.cli_words.specs.declared.command.Which.{Which}
-use Rattle.cli_words.specs.declared.command.Which.TheVariants.{Plain, Hunt}
 use Rattle.cli_words.specs.declared.settings.Settings.{Settings}
+use Rattle.cli_words.specs.Queues.{which_of}
 
 infixl 10 ◌>>=◌
 -- go on with the value, where there is one
@@ -35,13 +34,6 @@ abbrev pub branching_of : List ℕ → Option Branching
 branching_of word =
     if bytes_eq word (codes "dispatch") then Some Dispatch
     else if bytes_eq word (codes "active") then Some Active
-    else None
-
--- the queue of this name
-abbrev pub which_of : List ℕ → Option Which
-which_of word =
-    if bytes_eq word (codes "plain") then Some Plain
-    else if bytes_eq word (codes "hunt") then Some Hunt
     else None
 
 abbrev pub ok_of : Result ℕ Cause → Option ℕ

@@ -1,5 +1,10 @@
 //! The commands of the program.
 
+ghost use Rattle.std.specs.Prelude.{◌≡◌};
+ghost use Rattle.cli_words.specs.Queues.{needs_threads, queue_of};
+
+use crate::queues::Which;
+
 /// Which problem a command is about.
 #[derive(Clone, Copy, Debug, PartialEq, Eq)]
 pub enum Kind {
@@ -16,15 +21,6 @@ pub enum Branching {
     Active,
 }
 
-/// Which queue a command uses.
-#[derive(Clone, Copy, Debug, PartialEq, Eq)]
-pub enum Which {
-    /// A sorted multiset with one caller.
-    Plain,
-    /// The heap whose nodes have locks of their own, with up to 16 callers.
-    Hunt,
-}
-
 /// A command of the program, with the defaults filled in.
 #[derive(Clone, Copy, Debug, PartialEq, Eq)]
 pub enum Command {
@@ -34,11 +30,11 @@ pub enum Command {
         /// `Dispatch` for a knapsack.
         branching: Branching,
         queue: Which,
-        /// 1 on the plain queue.
+        /// 1 to as many as callers of the queue.
         workers: u32,
-        /// How many nodes may be made: 1 to 1,048,560.
+        /// How many nodes may be made: at least 1.
         nodes: u32,
-        /// How many nodes the queue takes: at least the workers, at most 1,048,576.
+        /// How many nodes the queue takes: at least the workers.
         capacity: u32,
     },
     /// Reads an instance, and writes the bound of the root.
@@ -54,7 +50,7 @@ pub enum Command {
     /// Reads a script, runs it on a queue, and writes the history of its calls.
     Trace {
         queue: Which,
-        /// How many entries the queue takes: 1 to 1,048,576.
+        /// How many entries the queue takes: at least 1.
         capacity: u32,
     },
     /// Reads a knapsack, and writes a feasible choice that no feasible choice betters, with a proof that none does.
@@ -79,12 +75,41 @@ pub enum Command {
     /// Runs lanes and a search that are made from a number on queues of one kind, and writes what they came to. It
     /// reads nothing.
     Drill {
-        /// One of several callers.
+        /// One that needs threads.
         queue: Which,
-        /// How many lanes there are, and how many work at the search: 1 to 16.
+        /// How many lanes there are, and how many work at the search: 1 to as many as callers of the queue.
         workers: u32,
         seed: u32,
         /// How many entries each lane inserts, and then removes: 0 to 1,000.
         size: u32,
     },
+}
+
+impl Command {
+    /// The queue that the command uses, if any.
+    pub fn queue(self) -> Option<Which>
+        ensures { result ≡ queue_of self }
+    {
+        match self {
+            Command::Solve { queue, .. }
+            | Command::Prove { queue, .. }
+            | Command::Trace { queue, .. }
+            | Command::Drill { queue, .. } => { Some(queue) }
+            Command::Bound { .. }
+            | Command::Check { .. }
+            | Command::Verify
+            | Command::Audit
+            | Command::Make { .. } => None,
+        }
+    }
+
+    /// The command uses a queue that needs threads.
+    pub fn needs_threads(self) -> bool
+        ensures { result ≡ needs_threads self }
+    {
+        match self.queue() {
+            Some(queue) => queue.profile().needs_threads,
+            None => false,
+        }
+    }
 }

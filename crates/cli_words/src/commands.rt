@@ -1,42 +1,18 @@
-//! The command of a name with the settings that are said: its options, their ranges, and what they are where they are
-//! not said.
+//! The command of a name with the settings that are said.
 
-ghost use Rattle.std.specs.Prelude.{◌≡◌, ◌≤◌, IfSome};
-ghost use Rattle.inst_text.specs.Limits.{max_made_inserts};
-ghost use Rattle.cli_words.specs.Words.{option_limit, is_unlimited, is_unmade, is_silent};
-ghost use Rattle.cli_words.specs.CommandWords.{HasLimits, command_from, within};
-ghost use Rattle.cli_words.specs.CommandWords.{branching_for, most_workers, default_workers, workers_for};
-ghost use Rattle.cli_words.specs.CommandWords.{solve_from, kind_alone};
+ghost use Rattle.std.specs.Prelude.{◌≡◌, IfSome};
+ghost use Rattle.cli_words.specs.Limits.{HasLimits};
+ghost use Rattle.cli_words.specs.Words.{is_unlimited, is_unmade, is_silent};
+ghost use Rattle.cli_words.specs.CommandWords.{command_from, solve_from, kind_alone};
 ghost use Rattle.cli_words.specs.CommandWords.{bound_from, check_from, prove_from, verify_from, trace_from, audit_from};
-ghost use Rattle.cli_words.specs.CommandWords.{size_for, seed_for, make_from, IsMadeSize};
-ghost use Rattle.cli_words.specs.CommandWords.{of_several, inserts_for, drill_from, IsOfSeveral};
+ghost use Rattle.cli_words.specs.CommandWords.{make_from, drill_from};
 
-use crate::command::{Branching, Command, Kind, Which};
+use crate::command::{Command, Kind};
+use crate::queues::{queue_for, with_threads};
+use crate::ranges::{
+    branching_for, capacity_for, inserts_for, nodes_for, room_for, seed_for, size_for, workers_for,
+};
 use crate::settings::Settings;
-use bb_shared::MAX_NODES;
-use inst_text::{MAX_ITEMS, MAX_MADE_INSERTS, MAX_MADE_SHOP};
-use pq_model::{MAX_CAPACITY, MAX_SEATS};
-
-// How many nodes a search may make where it is not said.
-const DEFAULT_NODES: u64 = 100_000;
-
-// How many entries a traced queue takes where it is not said.
-const DEFAULT_CAPACITY: u64 = 1_024;
-
-// The queue where none is said.
-const DEFAULT_QUEUE: Which = Which::Hunt;
-
-// The seed of what is made where it is not said.
-const DEFAULT_SEED: u64 = 0;
-
-// How many items are made where it is not said.
-const DEFAULT_ITEMS: u64 = 100;
-
-// How many jobs and machines are made where it is not said.
-const DEFAULT_JOBS: u64 = 6;
-
-// How many entries each lane of a drill inserts where it is not said.
-const DEFAULT_INSERTS: u64 = 1_000;
 
 /// The command of this name with these settings.
 pub fn command_from(name: &[u8], said: Settings) -> Option<Command>
@@ -66,19 +42,7 @@ pub fn command_from(name: &[u8], said: Settings) -> Option<Command>
     }
 }
 
-// The number, where it lies from `low` to `high`.
-fn within(low: u64, high: u64, number: u64) -> Option<u64>
-    ensures exact { result ≡ within low high number }
-    ensures range { IfSome result (λ n. (low ≤ n) × (n ≤ high)) }
-{
-    if low <= number && number <= high {
-        Some(number)
-    } else {
-        None
-    }
-}
-
-// A problem, and what a search on the queue may have.
+// A problem, for a shop a branching, and what a search on the queue may have.
 #[tactic(auto, unfolding(crate::specs::CommandWords::solve_from))]
 fn solve_from(said: Settings) -> Option<Command>
     ensures exact { result ≡ solve_from said }
@@ -86,68 +50,21 @@ fn solve_from(said: Settings) -> Option<Command>
 {
     let kind = said.kind?;
     let branching = branching_for(kind, said.branching)?;
-    let queue = said.queue.unwrap_or(DEFAULT_QUEUE);
+    let queue = queue_for(said.queue);
     let workers = workers_for(queue, said.workers)?;
-    let nodes = within(1, u64::from(MAX_NODES), said.nodes.unwrap_or(DEFAULT_NODES))?;
-    let capacity = within(
-        workers,
-        u64::from(MAX_CAPACITY),
-        said.capacity.unwrap_or(nodes + workers),
-    )?;
+    let nodes = nodes_for(queue, said.nodes)?;
+    let capacity = room_for(queue, workers, nodes, said.capacity)?;
     if is_unmade(&said) {
         Some(Command::Solve {
             kind,
             branching,
             queue,
-            workers: workers as u32,
-            nodes: nodes as u32,
-            capacity: capacity as u32,
+            workers,
+            nodes,
+            capacity,
         })
     } else {
         None
-    }
-}
-
-// The greatest number of workers on a queue.
-fn most_workers(queue: Which) -> u64
-    ensures { result ≡ most_workers queue }
-{
-    match queue {
-        Which::Plain => 1,
-        Which::Hunt => u64::from(MAX_SEATS),
-    }
-}
-
-// The workers that are said for a search on a queue.
-fn workers_for(queue: Which, said: Option<u64>) -> Option<u64>
-    ensures exact { result ≡ workers_for queue said }
-    ensures range { IfSome result (λ n. (1 ≤ n) × (n ≤ most_workers queue)) }
-{
-    within(
-        1,
-        most_workers(queue),
-        said.unwrap_or(default_workers(queue)),
-    )
-}
-
-// How many workers a search has on a queue where it is not said.
-fn default_workers(queue: Which) -> u64
-    ensures { result ≡ default_workers queue }
-{
-    match queue {
-        Which::Plain => 1,
-        Which::Hunt => 4,
-    }
-}
-
-// Only a shop has two ways to branch; where none is said, it is by dispatching.
-fn branching_for(kind: Kind, said: Option<Branching>) -> Option<Branching>
-    ensures { result ≡ branching_for kind said }
-{
-    match (kind, said) {
-        (Kind::Shop, said) => Some(said.unwrap_or(Branching::Dispatch)),
-        (Kind::Knapsack, None) => Some(Branching::Dispatch),
-        (Kind::Knapsack, Some(_)) => None,
     }
 }
 
@@ -250,19 +167,15 @@ fn trace_from(said: Settings) -> Option<Command>
     ensures exact { result ≡ trace_from said }
     ensures limits { IfSome result HasLimits }
 {
-    let queue = said.queue.unwrap_or(DEFAULT_QUEUE);
-    let capacity = said.capacity.unwrap_or(DEFAULT_CAPACITY);
-    let capacity = within(1, u64::from(MAX_CAPACITY), capacity)?;
+    let queue = queue_for(said.queue);
+    let capacity = capacity_for(queue, said.capacity)?;
     if said.kind.is_none()
         && said.branching.is_none()
         && said.workers.is_none()
         && said.nodes.is_none()
         && is_unmade(&said)
     {
-        Some(Command::Trace {
-            queue,
-            capacity: capacity as u32,
-        })
+        Some(Command::Trace { queue, capacity })
     } else {
         None
     }
@@ -281,25 +194,6 @@ fn audit_from(said: Settings) -> Option<Command>
     }
 }
 
-// How many items of a knapsack are made, or how many jobs and machines of a shop.
-fn size_for(kind: Kind, said: Option<u64>) -> Option<u64>
-    ensures exact { result ≡ size_for kind said }
-    ensures range { IfSome result (IsMadeSize kind) }
-{
-    match kind {
-        Kind::Knapsack => within(0, u64::from(MAX_ITEMS), said.unwrap_or(DEFAULT_ITEMS)),
-        Kind::Shop => within(1, u64::from(MAX_MADE_SHOP), said.unwrap_or(DEFAULT_JOBS)),
-    }
-}
-
-// The seed of what is made.
-fn seed_for(said: Option<u64>) -> Option<u64>
-    ensures exact { result ≡ seed_for said }
-    ensures range { IfSome result (λ n. n ≤ option_limit) }
-{
-    within(0, u64::from(u32::MAX), said.unwrap_or(DEFAULT_SEED))
-}
-
 // A problem, a seed and a size.
 #[tactic(auto, unfolding(crate::specs::CommandWords::make_from))]
 fn make_from(said: Settings) -> Option<Command>
@@ -310,46 +204,19 @@ fn make_from(said: Settings) -> Option<Command>
     let seed = seed_for(said.seed)?;
     let size = size_for(kind, said.size)?;
     if said.branching.is_none() && is_unlimited(&said) {
-        Some(Command::Make {
-            kind,
-            seed: seed as u32,
-            size: size as u32,
-        })
+        Some(Command::Make { kind, seed, size })
     } else {
         None
     }
 }
 
-// The queue, where it has several callers.
-fn of_several(queue: Which) -> Option<Which>
-    ensures exact { result ≡ of_several queue }
-    ensures several { IfSome result IsOfSeveral }
-{
-    match queue {
-        Which::Plain => None,
-        Which::Hunt => Some(queue),
-    }
-}
-
-// How many entries each lane of a drill inserts.
-fn inserts_for(said: Option<u64>) -> Option<u64>
-    ensures exact { result ≡ inserts_for said }
-    ensures range { IfSome result (λ n. n ≤ max_made_inserts) }
-{
-    within(
-        0,
-        u64::from(MAX_MADE_INSERTS),
-        said.unwrap_or(DEFAULT_INSERTS),
-    )
-}
-
-// A queue of several callers, workers, a seed and a size.
+// A queue that needs threads, workers, a seed and a size.
 #[tactic(auto, unfolding(crate::specs::CommandWords::drill_from))]
 fn drill_from(said: Settings) -> Option<Command>
     ensures exact { result ≡ drill_from said }
     ensures limits { IfSome result HasLimits }
 {
-    let queue = of_several(said.queue.unwrap_or(DEFAULT_QUEUE))?;
+    let queue = with_threads(queue_for(said.queue))?;
     let workers = workers_for(queue, said.workers)?;
     let seed = seed_for(said.seed)?;
     let size = inserts_for(said.size)?;
@@ -360,9 +227,9 @@ fn drill_from(said: Settings) -> Option<Command>
     {
         Some(Command::Drill {
             queue,
-            workers: workers as u32,
-            seed: seed as u32,
-            size: size as u32,
+            workers,
+            seed,
+            size,
         })
     } else {
         None

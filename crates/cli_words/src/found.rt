@@ -2,12 +2,14 @@
 
 ghost use Rattle.std.specs.Prelude.{◌≡◌, codes, option_map};
 ghost use Rattle.clap.specs.Words.{first_of, found_of, rows_of};
-ghost use Rattle.cli_words.specs.Words.{kind_of, branching_of, which_of, number_in};
+ghost use Rattle.cli_words.specs.Queues.{which_of};
+ghost use Rattle.cli_words.specs.Words.{kind_of, branching_of, number_in};
 ghost use Rattle.cli_words.specs.Parser.{read_of, settings_in};
 
-use crate::command::{Branching, Kind, Which};
+use crate::command::{Branching, Kind};
+use crate::queues::{Which, which_of};
 use crate::settings::Settings;
-use crate::values::{branching_of, kind_of, number_in, which_of};
+use crate::values::{branching_of, kind_of, number_in};
 use clap::ArgMatches;
 
 /// The settings that were found, where each text reads as one.

@@ -3,10 +3,11 @@
 ghost use Rattle.std.specs.Prelude.{◌≡◌, IfOk, IfSome};
 ghost use Rattle.clap.specs.Words.{subcommand_rows_of};
 ghost use Rattle.cli_words.specs.Parser.{answer_in, command_found, has_end, refusal_of};
-ghost use Rattle.cli_words.specs.CommandWords.{HasLimits, IsReadAs, IsStill, still_alone, still_command_of};
-ghost use Rattle.cli_words.specs.CommandWords.{command_of, texts};
+ghost use Rattle.cli_words.specs.CommandWords.{command_of, still_command_of, texts, IsReadAs};
+ghost use Rattle.cli_words.specs.Limits.{HasLimits};
+ghost use Rattle.cli_words.specs.Queues.{still_alone, IsStill};
 
-use crate::command::{Command, Which};
+use crate::command::Command;
 use crate::command_line::parser;
 use crate::commands::command_from;
 use crate::found::settings_in;
@@ -102,20 +103,9 @@ fn still_alone(command: Command) -> Option<Command>
     ensures still { IfSome result IsStill }
     ensures same { IfSome result (λ c. c ≡ command) }
 {
-    match command {
-        Command::Solve {
-            queue: Which::Hunt,
-            ..
-        }
-        | Command::Prove {
-            queue: Which::Hunt,
-            ..
-        }
-        | Command::Trace {
-            queue: Which::Hunt,
-            ..
-        }
-        | Command::Drill { .. } => None,
-        _ => Some(command),
+    if command.needs_threads() {
+        None
+    } else {
+        Some(command)
     }
 }

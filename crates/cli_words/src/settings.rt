@@ -1,6 +1,7 @@
 //! What the words have said so far.
 
-use crate::command::{Branching, Kind, Which};
+use crate::command::{Branching, Kind};
+use crate::queues::Which;
 
 /// What the words behind a command's name have said so far.
 #[derive(Clone, Copy, Debug)]

@@ -1,9 +1,9 @@
 //! What the text of a value says.
 
 ghost use Rattle.std.specs.Prelude.{◌≡◌};
-ghost use Rattle.cli_words.specs.Words.{kind_of, branching_of, which_of, number_in};
+ghost use Rattle.cli_words.specs.Words.{kind_of, branching_of, number_in};
 
-use crate::command::{Branching, Kind, Which};
+use crate::command::{Branching, Kind};
 use pq_io::digits;
 
 /// The problem of this name.
@@ -27,19 +27,6 @@ pub fn branching_of(word: &[u8]) -> Option<Branching>
         Some(Branching::Dispatch)
     } else if word == b"active".as_slice() {
         Some(Branching::Active)
-    } else {
-        None
-    }
-}
-
-/// The queue of this name.
-pub fn which_of(word: &[u8]) -> Option<Which>
-    ensures { result ≡ which_of word.now }
-{
-    if word == b"plain".as_slice() {
-        Some(Which::Plain)
-    } else if word == b"hunt".as_slice() {
-        Some(Which::Hunt)
     } else {
         None
     }
