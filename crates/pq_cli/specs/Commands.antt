@@ -20,7 +20,7 @@ use Rattle.pq_cli.specs.declared.commands.task.Task.TheVariants.{Solve, Bound, C
 use Rattle.cli_words.specs.declared.limits.Limits.{Limits}
 use Rattle.pq_cli.specs.declared.status.Status.TheVariants as statuses
 use Rattle.pq_cli.specs.Auditing.{IsAudited}
-use Rattle.cli_words.specs.CommandWords.{limits_of}
+use Rattle.cli_words.specs.Limits.{limits_of}
 use Rattle.pq_cli.specs.Drilling.{drill_text}
 use Rattle.pq_cli.specs.Tracing.{IsTraced, lanes_on}
 use Rattle.pq_cli.specs.Proving.{IsProved, IsProofTooLong, IsVerified}

@@ -2,19 +2,17 @@
 use Rattle.std.specs.Prelude.{ℕ, ◌≡◌, List, length, map, min, All, Ok}
 use Rattle.pq_model.specs.declared.marks.Act.{Act}
 use Rattle.pq_model.specs.declared.marks.Mark.{Mark}
-use Rattle.pq_model.specs.Limits.{max_seats}
 use Rattle.pq_model.specs.History.{IsLegal, left}
 use Rattle.pq_tape.specs.HistoryText.{HasLine, history_text}
 use Rattle.inst_text.specs.Script.{script_of}
 use Rattle.pq_api.specs.Plain.{Plain, held}
 use Rattle.pq_lanes.specs.Tracing.{IsTraceOf}
-use Rattle.cli_words.specs.declared.command.Which.{Which}
-use Rattle.cli_words.specs.declared.command.Which.TheVariants as queues
+use Rattle.cli_words.specs.declared.queues.Which.{Which}
+use Rattle.cli_words.specs.Queues.{profile_of}
 
 -- how many lanes a script may have on a queue of this capacity
 abbrev pub lanes_on : Which → ℕ → ℕ
-lanes_on queues.Plain capacity = 1
-lanes_on queues.Hunt capacity = min max_seats capacity
+lanes_on queue capacity = min (profile_of queue).most_callers capacity
 
 -- The text of a history of the script that was read, where so many lanes are allowed, and of how many entries it
 -- leaves.

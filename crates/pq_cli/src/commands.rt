@@ -2,10 +2,11 @@
 //! nowhere else; and so is the queue.
 
 ghost use Rattle.std.specs.Prelude.{◌≡◌, IfOk, IfErr};
-ghost use Rattle.pq_model.specs.Limits.{max_seats, max_capacity};
+ghost use Rattle.bb_pool.specs.Limits.{max_nodes};
 ghost use Rattle.pq_cli.specs.declared.commands.task.Task.TheVariants as tasks;
 ghost use Rattle.pq_cli.specs.Answers.{status_in, text_in, IsWritable};
-ghost use Rattle.cli_words.specs.CommandWords.{HasLimits, AreWithin, IsStill, queue_of};
+ghost use Rattle.cli_words.specs.Limits.{HasLimits, AreWithin};
+ghost use Rattle.cli_words.specs.Queues.{IsStill};
 ghost use Rattle.pq_cli.specs.CommandLimits.{HasTaskLimits, IsShared};
 ghost use Rattle.pq_cli.specs.Commands.{duty_of, used_work, task_work};
 ghost use Rattle.pq_cli.specs.Duties.{reads_input, IsInput, Fulfils};
@@ -42,7 +43,8 @@ use bb_knap::Knapsack;
 use bb_onemach::ActiveShop;
 use bb_shop::Shop;
 use cli_words::{Branching, Command, Kind, Limits, Which};
-use pq_api::BoundedQueue;
+use pq_api::{BoundedQueue, Gate};
+use pq_hunt::HuntHeap;
 use pq_io::{Source, gather_input};
 use std::alloc::Global;
 use std::sync::Wait;
@@ -50,7 +52,11 @@ use std::thread::Threads;
 
 /// What the command answers to the input, where it needs no threads.
 #[tactic(auto, using(crate::proofs::Explained::fulfilled))]
-pub fn respond<I: Source>(alloc: Global, command: Command, input: &mut I) -> Result<Answer, Refusal>
+pub fn answer_still<I: Source>(
+    alloc: Global,
+    command: Command,
+    input: &mut I,
+) -> Result<Answer, Refusal>
     requires limits { HasLimits command }
     requires still { IsStill command }
     ensures answers { IfOk result (λ a.
@@ -59,29 +65,26 @@ pub fn respond<I: Source>(alloc: Global, command: Command, input: &mut I) -> Res
     ensures stops { IfErr result (Stops (duty_of command) (change I.left I.faults input.old input.new)) }
 {
     let bytes = input_of(alloc, command, input)?;
-    respond_to(alloc, command, &bytes)
+    work_still(alloc, command, &bytes)
 }
 
-/// What the command answers to the input, where a queue of several callers is of this kind.
+/// What the command answers to the input, with this gate at the points of the queue's calls.
 #[tactic(auto, using(crate::proofs::Explained::fulfilled))]
-pub fn respond_on<Rt: Threads + Wait + Sync, H: BoundedQueue, I: Source>(
+pub fn answer<Rt: Threads + Wait + Sync, I: Source, G: Gate>(
     rt: &Rt,
     alloc: Global,
     command: Command,
     input: &mut I,
-    gate: H::Gate,
+    gate: &G,
 ) -> Result<Answer, Refusal>
-where
-    H::Gate: Copy,
     requires limits { HasLimits command }
-    requires heap { (H.SEATS ≡ max_seats) × (H.CAPACITY ≡ max_capacity) }
     ensures answers { IfOk result (λ a.
         Answers (duty_of command) (status_in a) (text_in a) (change I.left I.faults input.old input.new)) }
     ensures writable { IfOk result IsWritable }
     ensures stops { IfErr result (Stops (duty_of command) (change I.left I.faults input.old input.new)) }
 {
     let bytes = input_of(alloc, command, input)?;
-    respond_to_on::<Rt, H>(rt, alloc, command, &bytes, gate)
+    work(rt, alloc, command, &bytes, gate)
 }
 
 // Whether the command reads an input.
@@ -105,31 +108,26 @@ fn input_of<I: Source>(alloc: Global, command: Command, input: &mut I) -> Result
     Ok(bytes)
 }
 
-// What the command answers to these bytes, where a queue of several callers is of this kind. A queue has its one line
-// here.
-#[tactic(auto, using(crate::proofs::Shared::hunt_is_shared))]
-fn respond_to_on<Rt: Threads + Wait + Sync, H: BoundedQueue>(
+// What the command answers to these bytes. A queue has its one line here.
+#[tactic(auto, using(crate::proofs::Shared::queue_is_shared))]
+fn work<Rt: Threads + Wait + Sync, G: Gate>(
     rt: &Rt,
     alloc: Global,
     command: Command,
     bytes: &[u8],
-    gate: H::Gate,
+    gate: &G,
 ) -> Result<Answer, Refusal>
-where
-    H::Gate: Copy,
     requires limits { HasLimits command }
-    requires heap { (H.SEATS ≡ max_seats) × (H.CAPACITY ≡ max_capacity) }
     ensures { Fulfils (duty_of command) bytes.now result }
 {
-    match queue_of(command) {
-        Some(Which::Hunt) => respond_by::<Rt, H>(rt, alloc, command, bytes, gate),
-        Some(Which::Plain) => respond_to(alloc, command, bytes),
-        None => respond_to(alloc, command, bytes),
+    match command.queue() {
+        Some(Which::Hunt) => work_on::<Rt, HuntHeap<&G>>(rt, alloc, command, bytes, gate),
+        Some(Which::Plain) | None => work_still(alloc, command, bytes),
     }
 }
 
-// What a command that uses a queue of several callers answers to these bytes, where the queue is of this kind.
-fn respond_by<Rt: Threads + Wait + Sync, Q: BoundedQueue>(
+// What a command that uses a queue answers to these bytes, where the queue is of this kind.
+fn work_on<Rt: Threads + Wait + Sync, Q: BoundedQueue>(
     rt: &Rt,
     alloc: Global,
     command: Command,
@@ -186,7 +184,7 @@ where
 }
 
 // What the command answers to these bytes, where it needs no threads.
-fn respond_to(alloc: Global, command: Command, bytes: &[u8]) -> Result<Answer, Refusal>
+fn work_still(alloc: Global, command: Command, bytes: &[u8]) -> Result<Answer, Refusal>
     requires limits { HasLimits command }
     requires still { IsStill command }
     ensures { Fulfils (duty_of command) bytes.now result }
@@ -234,27 +232,11 @@ fn respond_to(alloc: Global, command: Command, bytes: &[u8]) -> Result<Answer, R
             capacity,
         } => trace(alloc, bytes, capacity),
         Command::Audit => audit(alloc, bytes),
-        Command::Solve {
-            queue: Which::Hunt,
-            ..
-        }
-        | Command::Prove {
-            queue: Which::Hunt,
-            ..
-        }
-        | Command::Trace {
-            queue: Which::Hunt,
-            ..
-        }
-        | Command::Drill {
-            queue: Which::Hunt,
-            ..
-        }
-        | Command::Drill {
-            queue: Which::Plain,
-            ..
-        } => unreachable!(),
         Command::Make { kind, seed, size } => make(alloc, kind, seed, size),
+        Command::Solve { .. }
+        | Command::Prove { .. }
+        | Command::Trace { .. }
+        | Command::Drill { .. } => unreachable!(),
     }
 }
 
@@ -289,7 +271,7 @@ fn solve_named<Rt: Threads + Wait + Sync, Q: BoundedQueue>(
 ) -> Result<Answer, Refusal>
 where
     Q::Gate: Copy,
-    requires { AreWithin Q.SEATS Q.CAPACITY limits }
+    requires { AreWithin Q.SEATS max_nodes Q.CAPACITY limits }
     ensures { Meets (used_work (used kind branching) (tasks.Solve limits)) bytes.now result }
 {
     match (kind, branching) {
@@ -312,22 +294,5 @@ fn perform<P: UsedProblem>(alloc: Global, task: Task, bytes: &[u8]) -> Result<An
         Task::Solve(limits) => solve::<P>(alloc, bytes, limits),
         Task::Bound => bound::<P>(alloc, bytes),
         Task::Check => check::<P>(alloc, bytes),
-    }
-}
-
-// The queue that the command uses, if any.
-fn queue_of(command: Command) -> Option<Which>
-    ensures { result ≡ queue_of command }
-{
-    match command {
-        Command::Solve { queue, .. }
-        | Command::Prove { queue, .. }
-        | Command::Trace { queue, .. }
-        | Command::Drill { queue, .. } => { Some(queue) }
-        Command::Bound { .. }
-        | Command::Check { .. }
-        | Command::Verify
-        | Command::Audit
-        | Command::Make { .. } => None,
     }
 }

@@ -1,10 +1,11 @@
 //! Best plans, found by a search of one worker or of several.
 
 ghost use Rattle.std.specs.Prelude.{◌≡◌, ◌≤◌};
-ghost use Rattle.pq_model.specs.Limits.{max_capacity};
+ghost use Rattle.bb_pool.specs.Limits.{max_nodes};
 ghost use Rattle.bb_pool.specs.Outcomes.{IsOutcome};
 ghost use Rattle.bb_pool.specs.SearchOutcomes.{IsSearchOutcome};
-ghost use Rattle.cli_words.specs.CommandWords.{AreWithin};
+ghost use Rattle.cli_words.specs.declared.queues.Which.TheVariants.{Plain};
+ghost use Rattle.cli_words.specs.Limits.{AreLimits, AreWithin};
 ghost use Rattle.pq_cli.specs.Refusals.{plan_of, is_stopped};
 ghost use Rattle.pq_cli.specs.Work.{IsPlanned};
 
@@ -25,7 +26,7 @@ pub fn best_plan_alone<P: Problem>(
     problem: &P,
     limits: Limits,
 ) -> Result<P::Plan, Refusal>
-    requires { AreWithin 1 max_capacity limits }
+    requires { AreLimits Plain limits }
     ensures { IsPlanned (P.meaning problem.now) limits result }
 {
     let pass = plain_pass(alloc, limits.capacity)?;
@@ -47,7 +48,7 @@ pub fn best_plan_on<Rt: Threads + Wait + Sync, Q: BoundedQueue, P: Problem>(
 ) -> Result<P::Plan, Refusal>
 where
     Q::Gate: Copy,
-    requires { AreWithin Q.SEATS Q.CAPACITY limits }
+    requires { AreWithin Q.SEATS max_nodes Q.CAPACITY limits }
     ensures { IsPlanned (P.meaning problem.now) limits result }
 {
     let outcome = search_on::<Rt, Q, P>(rt, alloc, problem, limits, gate);
@@ -71,7 +72,7 @@ fn search_on<Rt: Threads + Wait + Sync, Q: BoundedQueue, P: Problem>(
 ) -> Outcome<P::Plan>
 where
     Q::Gate: Copy,
-    requires { AreWithin Q.SEATS Q.CAPACITY limits }
+    requires { AreWithin Q.SEATS max_nodes Q.CAPACITY limits }
     ensures outcome { IsSearchOutcome (P.meaning problem.now) limits.nodes limits.capacity limits.workers result }
     ensures one { limits.workers ≡ 1 → IsOutcome (P.meaning problem.now) limits.nodes limits.capacity result }
 {

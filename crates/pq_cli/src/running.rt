@@ -1,7 +1,6 @@
 //! The top call.
 
 ghost use Rattle.std.specs.Prelude.{◌≡◌, Some, IfOk, MatchResult};
-ghost use Rattle.pq_model.specs.Limits.{max_seats, max_capacity};
 ghost use Rattle.cli_words.specs.declared.command.Command.{Command};
 ghost use Rattle.pq_cli.specs.Answers.{status_in, text_in, IsWritable};
 ghost use Rattle.cli_words.specs.CommandWords.{command_of, still_command_of, texts};
@@ -12,13 +11,12 @@ ghost use Rattle.pq_cli.specs.Refusals.{status_of};
 ghost use Rattle.pq_cli.specs.Streams.{change, IsSame};
 
 use crate::answer::Answer;
-use crate::commands::{respond, respond_on};
+use crate::commands::{answer, answer_still};
 use crate::refusal::Refusal;
 use crate::reporting::report;
 use crate::status::Status;
 use cli_words::{read_still_words, read_words};
-use pq_api::{BoundedQueue, Gate};
-use pq_hunt::HuntHeap;
+use pq_api::Gate;
 use pq_io::{Failed, Sink, Source, put_all};
 use pq_tape::{History, write_history};
 use std::alloc::Global;
@@ -52,12 +50,12 @@ pub fn run_still<I: Source, O: Sink, E: Sink>(
         (change O.written O.faults output.old output.new)
         (change E.written E.faults faults.old faults.new) }
 {
-    report(run_words(alloc, words, input, output), faults)
+    report(run_still_words(alloc, words, input, output), faults)
 }
 
 // Runs the command that the words say, where it needs no threads, and reports nothing.
 #[tactic(auto, using(crate::proofs::Unread::refused_run))]
-fn run_words<I: Source, O: Sink>(
+fn run_still_words<I: Source, O: Sink>(
     alloc: Global,
     words: &[String],
     input: &mut I,
@@ -68,7 +66,7 @@ fn run_words<I: Source, O: Sink>(
         (change O.written O.faults output.old output.new) }
 {
     match read_still_words(alloc, words) {
-        Ok(command) => write_made(respond(alloc, command, input), output),
+        Ok(command) => write_made(answer_still(alloc, command, input), output),
         Err(refusal) => Status::from(refusal),
     }
 }
@@ -102,65 +100,25 @@ pub fn run<Rt: Threads + Wait + Sync, I: Source, O: Sink, E: Sink, G: Gate>(
         (change O.written O.faults output.old output.new)
         (change E.written E.faults faults.old faults.new) }
 {
-    run_on::<Rt, HuntHeap<&G>, I, O, E>(rt, alloc, words, input, output, faults, gate)
+    report(run_words(rt, alloc, words, input, output, gate), faults)
 }
 
-/// As `run`, where a queue of several callers is of this kind, with a gate of its kind.
-pub fn run_on<Rt: Threads + Wait + Sync, H: BoundedQueue, I: Source, O: Sink, E: Sink>(
-    rt: &Rt,
-    alloc: Global,
-    words: &[String],
-    input: &mut I,
-    output: &mut O,
-    faults: &mut E,
-    gate: H::Gate,
-) -> Status
-where
-    H::Gate: Copy,
-    requires heap { (H.SEATS ≡ max_seats) × (H.CAPACITY ≡ max_capacity) }
-    // The words came to a status, with these marks in the input and the output, and it was reported.
-    ensures ran { IsRunAndReported (command_of (texts words.now)) result
-        (change I.left I.faults input.old input.new)
-        (change O.written O.faults output.old output.new)
-        (change E.written E.faults faults.old faults.new) }
-    // So at Ok and Illegal the output has gained the command's answer to all that the input held.
-    ensures answered { IsAnswered result → IsAnsweredWhole (command_of (texts words.now)) result
-        (change I.left I.faults input.old input.new)
-        (change O.written O.faults output.old output.new) }
-    // And where there was all that the command needs, there is an answer, or no memory.
-    ensures complete { (c : Command) → command_of (texts words.now) ≡ Some c → IsComplete (duty_of c) result
-        (change I.left I.faults input.old input.new)
-        (change O.written O.faults output.old output.new)
-        (change E.written E.faults faults.old faults.new) }
-{
-    let status = run_words_on::<Rt, H, I, O>(rt, alloc, words, input, output, gate);
-    report(status, faults)
-}
-
-// Runs the command that the words say, where a queue of several callers is of this kind, and reports nothing.
+// Runs the command that the words say, and reports nothing.
 #[tactic(auto, using(crate::proofs::Unread::refused_run))]
-fn run_words_on<Rt: Threads + Wait + Sync, H: BoundedQueue, I: Source, O: Sink>(
+fn run_words<Rt: Threads + Wait + Sync, I: Source, O: Sink, G: Gate>(
     rt: &Rt,
     alloc: Global,
     words: &[String],
     input: &mut I,
     output: &mut O,
-    gate: H::Gate,
+    gate: &G,
 ) -> Status
-where
-    H::Gate: Copy,
-    requires heap { (H.SEATS ≡ max_seats) × (H.CAPACITY ≡ max_capacity) }
     ensures { IsRun (command_of (texts words.now)) result
         (change I.left I.faults input.old input.new)
         (change O.written O.faults output.old output.new) }
 {
     match read_words(alloc, words) {
-        Ok(command) => {
-            write_made(
-                respond_on::<Rt, H, I>(rt, alloc, command, input, gate),
-                output,
-            )
-        }
+        Ok(command) => write_made(answer(rt, alloc, command, input, gate), output),
         Err(refusal) => Status::from(refusal),
     }
 }

@@ -9,7 +9,8 @@ ghost use Rattle.pq_lanes.specs.Tracing.{IsTraceOf};
 ghost use Rattle.bb_problem.specs.Tree.{needed};
 ghost use Rattle.bb_knap.specs.Branching.{tree_of, least_cost};
 ghost use Rattle.pq_cli.specs.declared.refusal.Refusal.TheVariants as refusals;
-ghost use Rattle.cli_words.specs.CommandWords.{AreWithin};
+ghost use Rattle.bb_pool.specs.Limits.{max_nodes};
+ghost use Rattle.cli_words.specs.Limits.{AreWithin};
 ghost use Rattle.pq_cli.specs.CommandLimits.{IsDrillWithin, drill_limits};
 ghost use Rattle.pq_cli.specs.Drilling.{drill_items, drill_nodes, drill_text, greatest_value};
 ghost use Rattle.pq_cli.specs.Duties.{IsMade};
@@ -122,7 +123,7 @@ fn solve_made<Rt: Threads + Wait + Sync, Q: BoundedQueue>(
 ) -> Result<u32, Refusal>
 where
     Q::Gate: Copy,
-    requires { AreWithin Q.SEATS Q.CAPACITY (drill_limits workers) }
+    requires { AreWithin Q.SEATS max_nodes Q.CAPACITY (drill_limits workers) }
     ensures value { IfOk result (λ v. v ≡ greatest_value (made_knapsack seed drill_items)) }
     ensures memory { IfErr result (λ r. r ≡ refusals.NoMemory) }
 {

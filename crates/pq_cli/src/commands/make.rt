@@ -1,7 +1,7 @@
 //! `make`: an instance from a number.
 
 ghost use Rattle.std.specs.Prelude.{◌≡◌, IfOk};
-ghost use Rattle.cli_words.specs.CommandWords.{IsMadeSize};
+ghost use Rattle.cli_words.specs.Limits.{IsMadeSize};
 ghost use Rattle.pq_cli.specs.Commands.{made_text};
 ghost use Rattle.pq_cli.specs.Duties.{IsMade};
 

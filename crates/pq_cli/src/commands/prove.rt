@@ -1,12 +1,13 @@
 //! `prove`: a best choice of a knapsack, and the proof that no choice has more.
 
 ghost use Rattle.std.specs.Prelude.{◌≡◌, ℕ, List, IfOk, Ok};
-ghost use Rattle.pq_model.specs.Limits.{max_capacity};
+ghost use Rattle.bb_pool.specs.Limits.{max_nodes};
 ghost use Rattle.pq_io.specs.Reading.{Gives};
 ghost use Rattle.inst_text.specs.Knapsack.{knapsack_of};
 ghost use Rattle.bb_knap.specs.Branching.{meaning_of};
 ghost use Rattle.cli_words.specs.declared.limits.Limits.{Limits};
-ghost use Rattle.cli_words.specs.CommandWords.{AreWithin};
+ghost use Rattle.cli_words.specs.declared.queues.Which.TheVariants.{Plain};
+ghost use Rattle.cli_words.specs.Limits.{AreLimits, AreWithin};
 ghost use Rattle.pq_cli.specs.Commands.{proving};
 ghost use Rattle.pq_cli.specs.Refusals.{made_of};
 ghost use Rattle.pq_cli.specs.Using.{IsBestPlan};
@@ -30,7 +31,7 @@ use std::thread::Threads;
 /// The text of a best choice of the knapsack that the bytes read as, found by a search over a plain queue, and of the
 /// canonical proof that no choice has more.
 pub fn prove(alloc: Global, bytes: &[u8], limits: Limits) -> Result<Answer, Refusal>
-    requires { AreWithin 1 max_capacity limits }
+    requires { AreLimits Plain limits }
     ensures { Meets (proving limits) bytes.now result }
 {
     let knapsack = Knapsack::read(alloc, bytes)?;
@@ -48,7 +49,7 @@ pub fn prove_on<Rt: Threads + Wait + Sync, Q: BoundedQueue>(
 ) -> Result<Answer, Refusal>
 where
     Q::Gate: Copy,
-    requires { AreWithin Q.SEATS Q.CAPACITY limits }
+    requires { AreWithin Q.SEATS max_nodes Q.CAPACITY limits }
     ensures { Meets (proving limits) bytes.now result }
 {
     let knapsack = Knapsack::read(alloc, bytes)?;

@@ -1,9 +1,10 @@
 //! `solve`: a plan that no feasible plan betters.
 
 ghost use Rattle.std.specs.Prelude.{◌≡◌, ℕ, List, Ok};
-ghost use Rattle.pq_model.specs.Limits.{max_capacity};
+ghost use Rattle.bb_pool.specs.Limits.{max_nodes};
 ghost use Rattle.cli_words.specs.declared.limits.Limits.{Limits};
-ghost use Rattle.cli_words.specs.CommandWords.{AreWithin};
+ghost use Rattle.cli_words.specs.declared.queues.Which.TheVariants.{Plain};
+ghost use Rattle.cli_words.specs.Limits.{AreLimits, AreWithin};
 ghost use Rattle.pq_cli.specs.Commands.{solving};
 ghost use Rattle.pq_cli.specs.Work.{Meets, IsPlanned};
 
@@ -20,7 +21,7 @@ use std::thread::Threads;
 
 /// The text of a best plan of the instance that the bytes read as, found by a search over a plain queue.
 pub fn solve<P: UsedProblem>(alloc: Global, bytes: &[u8], limits: Limits) -> Result<Answer, Refusal>
-    requires { AreWithin 1 max_capacity limits }
+    requires { AreLimits Plain limits }
     ensures { Meets (solving P.meaning P.texts limits) bytes.now result }
 {
     let problem = P::read(alloc, bytes)?;
@@ -38,7 +39,7 @@ pub fn solve_on<Rt: Threads + Wait + Sync, Q: BoundedQueue, P: UsedProblem>(
 ) -> Result<Answer, Refusal>
 where
     Q::Gate: Copy,
-    requires { AreWithin Q.SEATS Q.CAPACITY limits }
+    requires { AreWithin Q.SEATS max_nodes Q.CAPACITY limits }
     ensures { Meets (solving P.meaning P.texts limits) bytes.now result }
 {
     let problem = P::read(alloc, bytes)?;

@@ -3,7 +3,6 @@
 ghost use Rattle.std.specs.Prelude.{◌≡◌, ◌+◌, ◌-◌, ◌<◌, ◌≤◌, ◌++◌, [], ◌∷◌, length, min, IfOk, OnOk, ℕ, List};
 ghost use Rattle.std.specs.List.{AllByRecursion};
 ghost use Rattle.pq_model.specs.declared.marks.Act.{Act};
-ghost use Rattle.pq_model.specs.Limits.{max_capacity};
 ghost use Rattle.pq_model.specs.History.{IsStep, after};
 ghost use Rattle.pq_model.specs.Passes.{fresh};
 ghost use Rattle.pq_api.specs.Limits.{call_limit};
@@ -11,6 +10,8 @@ ghost use Rattle.pq_api.specs.Plain.{held};
 ghost use Rattle.inst_text.specs.Limits.{max_commands};
 ghost use Rattle.pq_io.specs.Reading.{Gives};
 ghost use Rattle.inst_text.specs.Script.{IsCommand, script_of};
+ghost use Rattle.cli_words.specs.declared.queues.Which.TheVariants.{Plain};
+ghost use Rattle.cli_words.specs.Queues.{profile_of};
 ghost use Rattle.pq_cli.specs.Commands.{tracing};
 ghost use Rattle.pq_cli.specs.Tracing.{IsTracing};
 ghost use Rattle.pq_cli.specs.Work.{Meets};
@@ -63,7 +64,7 @@ fn read_lanes<Q: BoundedQueue>(
 ///
 /// All memory is taken before the first call of the queue. A command takes O(log n) where n entries are held.
 pub fn trace(alloc: Global, bytes: &[u8], capacity: u32) -> Result<Answer, Refusal>
-    requires { (1 ≤ capacity) × (capacity ≤ max_capacity) }
+    requires { (1 ≤ capacity) × (capacity ≤ (profile_of Plain).most_capacity) }
     ensures { Meets (tracing 1 capacity) bytes.now result }
 {
     let script = read_script(alloc, bytes, 1)?;

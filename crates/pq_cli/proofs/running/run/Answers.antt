@@ -1,0 +1,11 @@
+use Rattle.pq_cli.proofs.Ending.{answered_whole, completed}
+use Rattle.pq_cli.proofs.running.run.Goals as goal
+
+pub returns-clause-ran : goal.returns-clause-ran
+returns-clause-ran g c = record { status = c.run_words.result; ran = c.run_words.ensures; reported = c.report.ensures }
+
+pub returns-clause-answered : goal.returns-clause-answered
+returns-clause-answered g c = answered_whole _ _ _ _ _ _ c.run_words.ensures c.report.ensures
+
+pub returns-clause-complete : goal.returns-clause-complete
+returns-clause-complete g c = completed _ _ _ _ _ _ c.run_words.ensures c.report.ensures
