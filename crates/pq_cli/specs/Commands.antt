@@ -79,7 +79,7 @@ proving limits = record {
     limits = limits;
     needs = λ bytes. needed_for knapsacks.meaning_of (knapsack_of bytes);
   });
-  IsTooLong = IsProofTooLong;
+  IsTooLong = IsProofTooLong limits;
 }
 
 -- the verdict on such a proof

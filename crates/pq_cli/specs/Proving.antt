@@ -34,12 +34,14 @@ pub record IsProved (limits : Limits) (bytes text : List ℕ) : Type 0 where
   pub written : text ≡ proof_text (record { stated = value_of instance.items choice; plan = choice })
       (proof_for instance choice)
 
--- The proof for a best choice of the instance that was read has more tokens than a proof may have.
-pub record IsProofTooLong (bytes : List ℕ) : Type 0 where
+-- The proof for a best choice of the instance that was read has more tokens than a proof may have. The choice was found
+-- by a search within its limits.
+pub record IsProofTooLong (limits : Limits) (bytes : List ℕ) : Type 0 where
   pub instance : Instance
   pub choice : List ℕ
   pub reads : knapsack_of bytes ≡ Ok instance
   pub best : IsBestPlan (meaning_of instance) choice
+  pub room : HaveRoom limits (tree_of instance) (meaning_of instance).least
   pub long : proof_limit < length (proof_for instance choice)
 
 -- the choice with this stated value is proved to be a best one
