@@ -7,7 +7,7 @@ use Rattle.cli_words.specs.declared.settings.Settings.{Settings}
 use Rattle.cli_words.specs.Words.{◌>>=◌, with_option, with_lone, pair_name, settings_from}
 use Rattle.cli_words.proofs.SayingsRead.{WordIs, IsName, IsOpen, IsWhole, word_is, named_word, open_word, whole_word}
 use Rattle.cli_words.proofs.ClapRows.{bind_none, same_bytes, none_of_or}
-use Rattle.cli_words.proofs.ClapWords.{dash_option}
+use Rattle.cli_words.proofs.Options.{dash_option}
 use Rattle.cli_words.proofs.ClapWalk.{AreNoEnds, lone_from, pair_alone, pair_from}
 
 abbrev end : Text

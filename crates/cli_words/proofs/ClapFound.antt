@@ -12,6 +12,7 @@ use Rattle.cli_words.specs.Words.{◌>>=◌, kind_of, branching_of, number_in}
 use Rattle.cli_words.specs.Sayings.{Saying, Named, Valued, named, values_of, Becomes, AreKnown}
 use Rattle.cli_words.specs.CommandWords.{nothing}
 use Rattle.cli_words.specs.Parser.{read_of, settings_in}
+use Rattle.cli_words.proofs.Options.{by_name}
 use Rattle.cli_words.proofs.SayingsRead.{all_are_settings, settings_are_all}
 use Rattle.cli_words.proofs.ClapRows.{saying_of, settings_by, first_value, same_bytes, none_of_or, IsId, AreGood}
 
@@ -75,16 +76,9 @@ named_once (r ∷ rs) good = named_by r rs (bytes_eq r.id (codes "kind")) refl g
 
 known_by : (r : Row) (S : List Saying) → IsId r.id → AreKnown S → AreKnown (saying_of r ∷ S)
 known_by r S (inl is) h =
-    let Goal : Text → Type 0 = λ t. AreKnown ((if bytes_eq t (codes "kind") then Named (first_value r.values) else Valued t (first_value r.values)) ∷ S) in
-    elim is [
-      | inl e ↦ subst Goal (sym e) (inl refl, h)
-      | inr (inl e) ↦ subst Goal (sym e) (inr (inl refl), h)
-      | inr (inr (inl e)) ↦ subst Goal (sym e) (inr (inr (inl refl)), h)
-      | inr (inr (inr (inl e))) ↦ subst Goal (sym e) (inr (inr (inr (inl refl))), h)
-      | inr (inr (inr (inr (inl e)))) ↦ subst Goal (sym e) (inr (inr (inr (inr (inl refl)))), h)
-      | inr (inr (inr (inr (inr (inl e))))) ↦ subst Goal (sym e) (inr (inr (inr (inr (inr (inl refl))))), h)
-      | inr (inr (inr (inr (inr (inr e))))) ↦ subst Goal (sym e) (inr (inr (inr (inr (inr (inr refl))))), h)
-    ]
+    by_name (λ t. AreKnown ((if bytes_eq t (codes "kind") then Named (first_value r.values) else Valued t (first_value r.values)) ∷ S))
+    (inl refl, h) (inr (inl refl), h) (inr (inr (inl refl)), h) (inr (inr (inr (inl refl))), h) (inr (inr (inr (inr (inl refl)))), h)
+    (inr (inr (inr (inr (inr (inl refl))))), h) (inr (inr (inr (inr (inr (inr refl))))), h) r.id is
 known_by r S (inr e) h = rw e h
 
 all_known : (rows : List Row) → AreGood rows → AreKnown (map saying_of rows)

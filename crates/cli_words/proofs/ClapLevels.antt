@@ -12,6 +12,7 @@ use Rattle.cli_words.specs.Words.{settings_from, with_option}
 use Rattle.cli_words.specs.Sayings.{IsOptionName}
 use Rattle.cli_words.specs.CommandWords.{nothing}
 use Rattle.cli_words.specs.Parser.{settings_in}
+use Rattle.cli_words.proofs.Options.{by_name}
 use Rattle.cli_words.proofs.ClapRows.{same_bytes, differs, when, when_or, settings_by, AreGood}
 use Rattle.cli_words.proofs.ClapSteps.{option_rule, kind_rule, AreRules, leaf, between}
 use Rattle.cli_words.proofs.ClapWalk.{AreNoEnds, or_nil, walk_is_read}
@@ -50,30 +51,10 @@ long_by n false false false false false false false hq hw hd hc hb he hz = inr (
 )
 
 by_id : (n : Text) → IsOptionName n → arg_by_id rules n ≡ Some (option_rule n)
-by_id n is =
-    let Goal : Text → Type 0 = λ t. arg_by_id rules t ≡ Some (option_rule t) in
-    elim is [
-      | inl e ↦ subst Goal (sym e) refl
-      | inr (inl e) ↦ subst Goal (sym e) refl
-      | inr (inr (inl e)) ↦ subst Goal (sym e) refl
-      | inr (inr (inr (inl e))) ↦ subst Goal (sym e) refl
-      | inr (inr (inr (inr (inl e)))) ↦ subst Goal (sym e) refl
-      | inr (inr (inr (inr (inr (inl e))))) ↦ subst Goal (sym e) refl
-      | inr (inr (inr (inr (inr (inr e))))) ↦ subst Goal (sym e) refl
-    ]
+by_id = by_name (λ t. arg_by_id rules t ≡ Some (option_rule t)) refl refl refl refl refl refl refl
 
 no_kind : (n : Text) → IsOptionName n → bytes_eq n (codes "kind") ≡ false
-no_kind n is =
-    let Goal : Text → Type 0 = λ t. bytes_eq t (codes "kind") ≡ false in
-    elim is [
-      | inl e ↦ subst Goal (sym e) refl
-      | inr (inl e) ↦ subst Goal (sym e) refl
-      | inr (inr (inl e)) ↦ subst Goal (sym e) refl
-      | inr (inr (inr (inl e))) ↦ subst Goal (sym e) refl
-      | inr (inr (inr (inr (inl e)))) ↦ subst Goal (sym e) refl
-      | inr (inr (inr (inr (inr (inl e))))) ↦ subst Goal (sym e) refl
-      | inr (inr (inr (inr (inr (inr e))))) ↦ subst Goal (sym e) refl
-    ]
+no_kind = by_name (λ t. bytes_eq t (codes "kind") ≡ false) refl refl refl refl refl refl refl
 
 are_rules : AreRules rules
 are_rules = record {

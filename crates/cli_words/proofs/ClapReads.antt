@@ -1,5 +1,5 @@
 -- What clap answers, as a command, is what the words say.
-use Rattle.std.proofs.Common.{◌≡◌, ◌∙◌, inl, inr, refl, sym, ap, Bool, true, false, ◌||◌, List, [], ◌∷◌, option_map, Option, None, Some, Result, Ok, Err, IfOk}
+use Rattle.std.proofs.Common.{◌≡◌, ◌∙◌, inl, inr, refl, sym, ap, Bool, true, false, ◌||◌, List, [], ◌∷◌, map, option_map, Option, None, Some, Result, Ok, Err, IfOk}
 use Rattle.std.specs.Prelude.{codes, Box}
 use Rattle.std.specs.Option.{ok_or}
 use Rattle.std.specs.Str.{bytes_eq}
@@ -18,17 +18,20 @@ use Rattle.cli_words.specs.declared.settings.Settings.{Settings}
 use Rattle.cli_words.specs.declared.reading.WordsRefusal.{WordsRefusal}
 use Rattle.cli_words.specs.declared.reading.WordsRefusal.TheVariants.{BadWords, NoMemory}
 use Rattle.cli_words.specs.Words.{◌>>=◌, settings_from}
-use Rattle.cli_words.specs.CommandWords.{nothing, command_from, command_of, IsReadAs}
+use Rattle.cli_words.specs.CommandWords.{nothing, among, commands, command_names, command_from, command_of, IsReadAs}
 use Rattle.cli_words.specs.Parser.{parser_app, settings_in, has_end, command_found, refusal_of, answer_in}
 use Rattle.cli_words.proofs.ClapRows.{bind_none, same_bytes}
 use Rattle.cli_words.proofs.ClapLevels.{leaf_rows}
-use Rattle.cli_words.proofs.ClapTop.{command_names, AreOther, IsTaken, IsRefused, takes_words, refuses_words, is_simple_parser}
+use Rattle.cli_words.proofs.ClapTop.{AreOther, IsTaken, IsRefused, takes_words, refuses_words, is_simple_parser}
 use Rattle.cli_words.proofs.ClapEnd.{no_ends_are, end_leaves_none}
 
 -- a name of no command
+none_among : (name : Text) (said : Settings) (cs : List (Text × (Settings → Option Command))) → AreOther name (map (λ c. c.0) cs) → among cs name said ≡ None
+none_among name said [] o = refl
+none_among name said (c ∷ cs) o = rw o.0 (none_among name said cs o.1)
+
 no_command : (name : Text) (said : Settings) → AreOther name command_names → command_from name said ≡ None
-no_command name said o =
-    rw (o.0, o.1.0, o.1.1.0, o.1.1.1.0, o.1.1.1.1.0, o.1.1.1.1.1.0, o.1.1.1.1.1.1.0, o.1.1.1.1.1.1.1.0, o.1.1.1.1.1.1.1.1.0) refl
+no_command name said o = none_among name said commands o
 
 first_end : (x : Text) (words : List Text) → bytes_eq x (codes "--") ≡ true → command_of (x ∷ words) ≡ None
 unfolding command_of

@@ -14,7 +14,8 @@ use Rattle.cli_words.specs.Words.{behind_dashes, with_kind, with_option}
 use Rattle.cli_words.specs.Sayings.{IsOptionName}
 use Rattle.cli_words.proofs.SayingsRead.{WordIs, IsName, IsOpen, IsWhole}
 use Rattle.cli_words.proofs.ClapRows.{when, when_or, settings_by, text_rule, bytes_self}
-use Rattle.cli_words.proofs.ClapWords.{open_long, whole_long, not_long, dash_kind, dash_option, short_cases}
+use Rattle.cli_words.proofs.ClapWords.{open_long, whole_long, not_long, dash_kind, short_cases}
+use Rattle.cli_words.proofs.Options.{dash_option}
 
 abbrev pub option_rule : Text → Rule
 option_rule name = text_rule name (Some name) None

@@ -12,18 +12,13 @@ use Rattle.clap.specs.declared.error.kind.ErrorKind.{ErrorKind}
 use Rattle.clap.specs.declared.error.kind.ErrorKind.TheVariants.{UnknownArgument, InvalidSubcommand, MissingSubcommand}
 use Rattle.clap.proofs.FaultLemmas.{stopped_fault}
 use Rattle.cli_words.specs.Words.{settings_from}
-use Rattle.cli_words.specs.CommandWords.{nothing}
+use Rattle.cli_words.specs.CommandWords.{nothing, command_names}
 use Rattle.cli_words.specs.Parser.{parser_app, settings_in}
 use Rattle.cli_words.proofs.ClapRows.{same_bytes, differs, nothing_more}
 use Rattle.cli_words.proofs.ClapWords.{short_cases}
 use Rattle.cli_words.proofs.ClapSteps.{leaf, and_false, bundle_is, IsNoEnd}
 use Rattle.cli_words.proofs.ClapWalk.{AreNoEnds, or_nil}
 use Rattle.cli_words.proofs.ClapLevels.{rules, leaf_fault, leaf_rows, taken_words, refused_words}
-
-abbrev pub command_names : List Text
-command_names =
-    codes "solve" ∷ codes "bound" ∷ codes "check" ∷ codes "prove" ∷ codes "verify" ∷ codes "trace" ∷ codes "audit" ∷ codes "make"
-    ∷ codes "drill" ∷ []
 
 abbrev top : Shape
 top = record {

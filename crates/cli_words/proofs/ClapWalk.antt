@@ -11,12 +11,11 @@ use Rattle.clap.specs.declared.error.kind.ErrorKind.{ErrorKind}
 use Rattle.clap.specs.declared.error.kind.ErrorKind.TheVariants.{UnknownArgument}
 use Rattle.cli_words.specs.declared.settings.Settings.{Settings}
 use Rattle.cli_words.specs.declared.command.Kind.{Kind}
-use Rattle.cli_words.specs.Queues.{which_of}
-use Rattle.cli_words.specs.Words.{◌>>=◌, once, kind_of, branching_of, number_in, behind_dashes, pair_name, with_kind, with_option, with_lone, settings_from}
-use Rattle.cli_words.specs.Words.{with_queue, with_workers, with_nodes, with_capacity, with_branching, with_seed, with_size}
+use Rattle.cli_words.specs.Words.{◌>>=◌, once, kind_of, behind_dashes, pair_name, with_kind, with_option, with_lone, settings_from}
 use Rattle.cli_words.specs.CommandWords.{nothing}
 use Rattle.cli_words.specs.Sayings.{IsOptionName}
-use Rattle.cli_words.proofs.SayingsRead.{WordIs, IsName, IsOpen, IsWhole, word_is, option_is, given, named_word, open_word, whole_word}
+use Rattle.cli_words.proofs.Options.{given, kind_kept}
+use Rattle.cli_words.proofs.SayingsRead.{WordIs, IsName, IsOpen, IsWhole, word_is, named_word, open_word, whole_word}
 use Rattle.cli_words.proofs.ClapRows.{bind_some, bind_bind, bind_same, bind_none, when, when_or, when_bind, when_none, settings_by, use_is}
 use Rattle.cli_words.proofs.ClapWords.{open_long, whole_long}
 use Rattle.cli_words.proofs.ClapSteps.{one_more, unknown_fault, whole_walked, whole_fault, open_walked, open_fault, name_step, second_name, value_step, option_rule, leaf, holding, between, behind, so_far, comes_to, IsNoEnd, AreRules}
@@ -87,19 +86,6 @@ taken_word name c w x words faults rows p k is fault rest at =
 bound_more : (o : Option Settings) (f g : Settings → Option Settings) (words : List Text) → ((s : Settings) → g s ≡ (f s >>= λ t. settings_from t words)) →
     ((o >>= f) >>= λ s. settings_from s words) ≡ (o >>= g)
 bound_more o f g words h = bind_bind o f (λ s. settings_from s words) ∙ bind_same o (λ s. f s >>= λ t. settings_from t words) g (λ s. sym (h s))
-
--- an option keeps the problem
-kind_kept : (s t : Settings) (n v : Text) → with_option s n v ≡ Some t → t.kind ≡ s.kind
-unfolding with_queue with_workers with_nodes with_capacity with_branching with_seed with_size
-kind_kept s t n v h = elim (option_is s t n v h) [
-  | inl a ↦ ap (λ (u : Settings). u.kind) (given (which_of v) s.queue (λ k. record s { queue = k }) t a.1).3
-  | inr (inl a) ↦ ap (λ (u : Settings). u.kind) (given (number_in v) s.workers (λ k. record s { workers = k }) t a.1).3
-  | inr (inr (inl a)) ↦ ap (λ (u : Settings). u.kind) (given (number_in v) s.nodes (λ k. record s { nodes = k }) t a.1).3
-  | inr (inr (inr (inl a))) ↦ ap (λ (u : Settings). u.kind) (given (number_in v) s.capacity (λ k. record s { capacity = k }) t a.1).3
-  | inr (inr (inr (inr (inl a)))) ↦ ap (λ (u : Settings). u.kind) (given (branching_of v) s.branching (λ k. record s { branching = k }) t a.1).3
-  | inr (inr (inr (inr (inr (inl a))))) ↦ ap (λ (u : Settings). u.kind) (given (number_in v) s.seed (λ k. record s { seed = k }) t a.1).3
-  | inr (inr (inr (inr (inr (inr a))))) ↦ ap (λ (u : Settings). u.kind) (given (number_in v) s.size (λ k. record s { size = k }) t a.1).3
-]
 
 once_by : (a b : Option Kind) (k : Kind) (s t : Settings) → b ≡ a → (once a k >>= λ f. Some (record s { kind = f })) ≡ None →
     (once b k >>= λ f. Some (record t { kind = f })) ≡ None

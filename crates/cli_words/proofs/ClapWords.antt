@@ -1,14 +1,13 @@
 -- What a word looks like to clap, and to the product's own reading.
-use Rattle.std.proofs.Common.{◌≡◌, ◌∙◌, ◌⊎◌, inl, inr, refl, sym, ap, ℕ, ◌+◌, Bool, true, false, ◌==◌, ◌||◌, [], ◌∷◌, ◌++◌, length, take, drop, Option, None, Some, arith}
+use Rattle.std.proofs.Common.{◌≡◌, ◌∙◌, ◌⊎◌, inl, inr, refl, sym, ap, ℕ, ◌+◌, Bool, true, false, ◌==◌, ◌||◌, [], ◌∷◌, ◌++◌, length, take, drop, None, Some, arith}
 use Rattle.std.proofs.lemmas.Bool.Decides.{nat_tests}
 use Rattle.std.specs.Str.{bytes_eq}
 use Rattle.clap.specs.Lexer.{long_of, short_of, has_byte, name_and_value}
 use Rattle.clap.specs.Walk.{Text}
 use Rattle.cli_words.specs.declared.settings.Settings.{Settings}
-use Rattle.cli_words.specs.Words.{behind_dashes, number_in, with_kind, with_option, with_queue, with_workers, with_nodes, with_capacity, with_branching, with_seed, with_size}
+use Rattle.cli_words.specs.Words.{behind_dashes, with_kind}
 use Rattle.cli_words.specs.Sayings.{HasNoEquals}
-use Rattle.pq_io.specs.Reading.{number_of}
-use Rattle.cli_words.proofs.SayingsRead.{place, nowhere, take_own, drop_own, option_is}
+use Rattle.cli_words.proofs.SayingsRead.{place, nowhere, take_own, drop_own}
 
 take_all : (n : Text) → take (length n) n ≡ n
 take_all [] = refl
@@ -61,59 +60,9 @@ not_long (a ∷ []) h = one_plain a (a == 45) refl
 not_long (a ∷ b ∷ bs) h = plain_bytes a b bs (a == 45) (b == 45) refl refl h
 
 -- what begins with a dash is no value
-no_number : (w : Text) → number_in (45 ∷ w) ≡ None
-unfolding number_of
-no_number w = refl
-
-none_kept : (o : Option Settings) → ((t : Settings) → o ≡ Some t → ⊥) → o ≡ None
-none_kept None h = refl
-none_kept (Some t) h = absurd (h t refl)
-
 pub dash_kind : (s : Settings) (w : Text) → with_kind s (45 ∷ w) ≡ None
 unfolding with_kind
 dash_kind s w = refl
-
-not_some : {A : Type 0} (t : A) (o : Option A) → o ≡ None → o ≡ Some t → ⊥
-not_some t o e f = absurd (cc)
-
-dash_queue : (s : Settings) (w : Text) → with_queue s (45 ∷ w) ≡ None
-unfolding with_queue
-dash_queue s w = refl
-
-dash_branching : (s : Settings) (w : Text) → with_branching s (45 ∷ w) ≡ None
-unfolding with_branching
-dash_branching s w = refl
-
-dash_workers : (s : Settings) (w : Text) → with_workers s (45 ∷ w) ≡ None
-unfolding with_workers number_of
-dash_workers s w = refl
-
-dash_nodes : (s : Settings) (w : Text) → with_nodes s (45 ∷ w) ≡ None
-unfolding with_nodes number_of
-dash_nodes s w = refl
-
-dash_capacity : (s : Settings) (w : Text) → with_capacity s (45 ∷ w) ≡ None
-unfolding with_capacity number_of
-dash_capacity s w = refl
-
-dash_seed : (s : Settings) (w : Text) → with_seed s (45 ∷ w) ≡ None
-unfolding with_seed number_of
-dash_seed s w = refl
-
-dash_size : (s : Settings) (w : Text) → with_size s (45 ∷ w) ≡ None
-unfolding with_size number_of
-dash_size s w = refl
-
-pub dash_option : (s : Settings) (name w : Text) → with_option s name (45 ∷ w) ≡ None
-dash_option s name w = none_kept (with_option s name (45 ∷ w)) (λ t h. elim (option_is s t name (45 ∷ w) h) [
-  | inl a ↦ not_some t _ (dash_queue s w) a.1
-  | inr (inl a) ↦ not_some t _ (dash_workers s w) a.1
-  | inr (inr (inl a)) ↦ not_some t _ (dash_nodes s w) a.1
-  | inr (inr (inr (inl a))) ↦ not_some t _ (dash_capacity s w) a.1
-  | inr (inr (inr (inr (inl a)))) ↦ not_some t _ (dash_branching s w) a.1
-  | inr (inr (inr (inr (inr (inl a))))) ↦ not_some t _ (dash_seed s w) a.1
-  | inr (inr (inr (inr (inr (inr a))))) ↦ not_some t _ (dash_size s w) a.1
-])
 
 dash_is : (a : ℕ) → (a == 45) ≡ true → a ≡ 45
 dash_is a e = grind (arith, nat_tests)

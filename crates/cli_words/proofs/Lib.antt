@@ -1,4 +1,5 @@
 pub mod WordSteps
+pub mod Options
 pub mod SayingsRead
 pub mod ClapApp
 pub mod ClapRows

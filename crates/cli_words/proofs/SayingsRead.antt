@@ -1,17 +1,14 @@
 -- Words are read as settings exactly where they say them.
-use Rattle.std.proofs.Common.{◌≡◌, ◌∙◌, ◌⊎◌, ◌+◌, inl, inr, refl, sym, ap, subst, ℕ, suc, Bool, true, false, cond, nat_lt, ◌==◌, List, [], ◌∷◌, ◌++◌, length, length-append, take, drop, if◌then◌else◌, Option, None, Some, arith}
+use Rattle.std.proofs.Common.{◌≡◌, ◌∙◌, ◌⊎◌, ◌+◌, inl, inr, refl, sym, ap, subst, ℕ, suc, Bool, true, false, cond, nat_lt, ◌==◌, List, [], ◌∷◌, ◌++◌, length, length-append, take, drop, Option, None, Some, arith}
 use Rattle.std.proofs.lemmas.Bool.Decides.{nat_tests}
-use Rattle.std.specs.Prelude.{codes}
 use Rattle.std.specs.List.{position_or_len}
-use Rattle.std.specs.Str.{bytes_eq}
-use Rattle.pq_io.proofs.Taken.{same_word}
 use Rattle.cli_words.specs.declared.command.Branching.{Branching}
 use Rattle.cli_words.specs.declared.command.Kind.{Kind}
 use Rattle.cli_words.specs.declared.queues.Which.{Which}
 use Rattle.cli_words.specs.declared.settings.Settings.{Settings}
-use Rattle.cli_words.specs.Queues.{which_of}
-use Rattle.cli_words.specs.Words.{◌>>=◌, once, kind_of, number_in, branching_of, with_kind, with_queue, with_workers, with_nodes, with_capacity, with_branching, with_seed, with_size, with_option, with_lone, with_last, with_body, with_split, after_two, unless_split, behind_dashes, split_at_equals, pair_name, settings_from}
-use Rattle.cli_words.specs.Sayings.{Saying, Named, Valued, HasNoEquals, IsOption, Say, named, values_of, Becomes, IsOptionName, AreSettings, AreSaid}
+use Rattle.cli_words.specs.Words.{◌>>=◌, kind_of, with_kind, with_option, with_lone, with_last, with_body, with_split, after_two, unless_split, behind_dashes, split_at_equals, pair_name, settings_from}
+use Rattle.cli_words.specs.Sayings.{Saying, Named, Valued, HasNoEquals, IsOption, Say, named, AreSettings, AreSaid}
+use Rattle.cli_words.proofs.Options.{given, giving, becomes_more, becomes_less, said_by_option, option_said}
 use Rattle.cli_words.proofs.WordSteps.{lone_step, pair_step}
 
 -- a word behind two dashes
@@ -79,32 +76,7 @@ dashes [] = inl refl
 dashes (a ∷ []) = inl refl
 dashes (a ∷ b ∷ bs) = dashes_more a b bs (a == 45) (b == 45) refl refl
 
--- one setting
-
-becomes_more : {A : Type 0} (read : List ℕ → Option A) (w : List ℕ) (ws : List (List ℕ)) (before after : Option A) (value : A) →
-    before ≡ None → read w ≡ Some value → Becomes read ws (Some value) after → Becomes read (w ∷ ws) before after
-becomes_more read w [] None (Some x) value none is h = is ∙ sym h
-becomes_more read w [] None None value none is h = absurd (cc)
-becomes_more read w [] (Some y) after value none is h = absurd (cc)
-becomes_more read w (v ∷ []) before after value none is h = absurd h
-becomes_more read w (v ∷ u ∷ vs) before after value none is h = absurd h
-
-becomes_less : {A : Type 0} (read : List ℕ → Option A) (w : List ℕ) (ws : List (List ℕ)) (before after : Option A) →
-    Becomes read (w ∷ ws) before after → (before ≡ None) × (value : A) × (read w ≡ Some value) × Becomes read ws (Some value) after
-becomes_less read w [] None (Some x) h = (refl, x, h, refl)
-becomes_less read w [] None None h = absurd h
-becomes_less read w [] (Some y) after h = absurd h
-becomes_less read w (v ∷ vs) before after h = absurd h
-
--- a setting is given the value that was read, where it had none
-pub given : {A : Type 0} (o field : Option A) (build : Option A → Settings) (s : Settings) → (o >>= λ v. once field v >>= λ f. Some (build f)) ≡ Some s →
-    (field ≡ None) × (v : A) × (o ≡ Some v) × (s ≡ build (Some v))
-given None field build s h = absurd (cc)
-given (Some v) None build s h = (refl, v, refl, cc)
-given (Some v) (Some y) build s h = absurd (cc)
-
-giving : {A : Type 0} (o field : Option A) (build : Option A → Settings) (v : A) → field ≡ None → o ≡ Some v → (o >>= λ v. once field v >>= λ f. Some (build f)) ≡ Some (build (Some v))
-giving o field build v none is = rw none (rw is refl)
+-- one step after the other
 
 pub bound_is : {A B : Type 0} (o : Option A) (f : A → Option B) (y : B) → (o >>= f) ≡ Some y → (x : A) × (o ≡ Some x) × (f x ≡ Some y)
 bound_is None f y h = absurd (cc)
@@ -140,106 +112,12 @@ same_settings a b k q w n c r d z =
     ∙ ap (λ x. made b.kind b.queue b.workers b.nodes b.capacity b.branching x a.size) d
     ∙ ap (λ x. made b.kind b.queue b.workers b.nodes b.capacity b.branching b.seed x) z
 
-choose : {A : Type 0} (b1 b2 b3 b4 b5 b6 b7 : Bool) (x1 x2 x3 x4 x5 x6 x7 : Option A) (y : A) →
-    (if b1 then x1 else if b2 then x2 else if b3 then x3 else if b4 then x4 else if b5 then x5 else if b6 then x6 else if b7 then x7 else None) ≡ Some y →
-    ((b1 ≡ true) × (x1 ≡ Some y)) ⊎ (((b2 ≡ true) × (x2 ≡ Some y)) ⊎ (((b3 ≡ true) × (x3 ≡ Some y)) ⊎ (((b4 ≡ true) × (x4 ≡ Some y)) ⊎ (((b5 ≡ true) × (x5 ≡ Some y)) ⊎ (((b6 ≡ true) × (x6 ≡ Some y)) ⊎ (((b7 ≡ true) × (x7 ≡ Some y))))))))
-choose true b2 b3 b4 b5 b6 b7 x1 x2 x3 x4 x5 x6 x7 y h = inl (refl, h)
-choose false true b3 b4 b5 b6 b7 x1 x2 x3 x4 x5 x6 x7 y h = inr (inl (refl, h))
-choose false false true b4 b5 b6 b7 x1 x2 x3 x4 x5 x6 x7 y h = inr (inr (inl (refl, h)))
-choose false false false true b5 b6 b7 x1 x2 x3 x4 x5 x6 x7 y h = inr (inr (inr (inl (refl, h))))
-choose false false false false true b6 b7 x1 x2 x3 x4 x5 x6 x7 y h = inr (inr (inr (inr (inl (refl, h)))))
-choose false false false false false true b7 x1 x2 x3 x4 x5 x6 x7 y h = inr (inr (inr (inr (inr (inl (refl, h))))))
-choose false false false false false false true x1 x2 x3 x4 x5 x6 x7 y h = inr (inr (inr (inr (inr (inr ((refl, h)))))))
-choose false false false false false false false x1 x2 x3 x4 x5 x6 x7 y h = absurd (cc)
-
--- an option is one of those that there are
-pub option_is : (said t : Settings) (name value : List ℕ) → with_option said name value ≡ Some t →
-    ((name ≡ codes "queue") × (with_queue said value ≡ Some t)) ⊎ (((name ≡ codes "workers") × (with_workers said value ≡ Some t)) ⊎ (((name ≡ codes "nodes") × (with_nodes said value ≡ Some t)) ⊎ (((name ≡ codes "capacity") × (with_capacity said value ≡ Some t)) ⊎ (((name ≡ codes "branching") × (with_branching said value ≡ Some t)) ⊎ (((name ≡ codes "seed") × (with_seed said value ≡ Some t)) ⊎ (((name ≡ codes "size") × (with_size said value ≡ Some t))))))))
-unfolding with_option
-option_is said t name value h = elim (choose (bytes_eq name (codes "queue")) (bytes_eq name (codes "workers")) (bytes_eq name (codes "nodes")) (bytes_eq name (codes "capacity")) (bytes_eq name (codes "branching")) (bytes_eq name (codes "seed")) (bytes_eq name (codes "size"))
-    (with_queue said value) (with_workers said value) (with_nodes said value) (with_capacity said value) (with_branching said value) (with_seed said value) (with_size said value) t h) [
-      | inl a ↦ inl (same_word name _ a.0, a.1)
-      | inr (inl a) ↦ inr (inl (same_word name _ a.0, a.1))
-      | inr (inr (inl a)) ↦ inr (inr (inl (same_word name _ a.0, a.1)))
-      | inr (inr (inr (inl a))) ↦ inr (inr (inr (inl (same_word name _ a.0, a.1))))
-      | inr (inr (inr (inr (inl a)))) ↦ inr (inr (inr (inr (inl (same_word name _ a.0, a.1)))))
-      | inr (inr (inr (inr (inr (inl a))))) ↦ inr (inr (inr (inr (inr (inl (same_word name _ a.0, a.1))))))
-      | inr (inr (inr (inr (inr (inr (a)))))) ↦ inr (inr (inr (inr (inr (inr ((same_word name _ a.0, a.1)))))))
-    ]
-
 said_kind : (said t s : Settings) (word : List ℕ) (sayings : List Saying) → with_kind said word ≡ Some t → AreSettings sayings t s → AreSettings (Named word ∷ sayings) said s
 unfolding with_kind
 said_kind said t s word sayings h more =
     let g = given (kind_of word) said.kind (λ k. record said { kind = k }) t h in
     let m = subst (λ x. AreSettings sayings x s) g.3 more in
     record { kind = becomes_more kind_of word (named sayings) said.kind s.kind g.1 g.0 g.2 m.kind; queue = m.queue; workers = m.workers; nodes = m.nodes; capacity = m.capacity; branching = m.branching; seed = m.seed; size = m.size; known = m.known }
-
-said_queue : (said t s : Settings) (name value : List ℕ) (sayings : List Saying) → name ≡ codes "queue" → with_queue said value ≡ Some t → AreSettings sayings t s → AreSettings (Valued name value ∷ sayings) said s
-unfolding with_queue
-said_queue said t s name value sayings is h more =
-    let g = given (which_of value) said.queue (λ k. record said { queue = k }) t h in
-    let m = subst (λ x. AreSettings sayings x s) g.3 more in
-    subst (λ n. AreSettings (Valued n value ∷ sayings) said s) (sym is)
-    (record { kind = m.kind; queue = becomes_more which_of value (values_of (codes "queue") sayings) said.queue s.queue g.1 g.0 g.2 m.queue; workers = m.workers; nodes = m.nodes; capacity = m.capacity; branching = m.branching; seed = m.seed; size = m.size; known = (inl refl, m.known) })
-
-said_workers : (said t s : Settings) (name value : List ℕ) (sayings : List Saying) → name ≡ codes "workers" → with_workers said value ≡ Some t → AreSettings sayings t s → AreSettings (Valued name value ∷ sayings) said s
-unfolding with_workers
-said_workers said t s name value sayings is h more =
-    let g = given (number_in value) said.workers (λ k. record said { workers = k }) t h in
-    let m = subst (λ x. AreSettings sayings x s) g.3 more in
-    subst (λ n. AreSettings (Valued n value ∷ sayings) said s) (sym is)
-    (record { kind = m.kind; queue = m.queue; workers = becomes_more number_in value (values_of (codes "workers") sayings) said.workers s.workers g.1 g.0 g.2 m.workers; nodes = m.nodes; capacity = m.capacity; branching = m.branching; seed = m.seed; size = m.size; known = (inr (inl refl), m.known) })
-
-said_nodes : (said t s : Settings) (name value : List ℕ) (sayings : List Saying) → name ≡ codes "nodes" → with_nodes said value ≡ Some t → AreSettings sayings t s → AreSettings (Valued name value ∷ sayings) said s
-unfolding with_nodes
-said_nodes said t s name value sayings is h more =
-    let g = given (number_in value) said.nodes (λ k. record said { nodes = k }) t h in
-    let m = subst (λ x. AreSettings sayings x s) g.3 more in
-    subst (λ n. AreSettings (Valued n value ∷ sayings) said s) (sym is)
-    (record { kind = m.kind; queue = m.queue; workers = m.workers; nodes = becomes_more number_in value (values_of (codes "nodes") sayings) said.nodes s.nodes g.1 g.0 g.2 m.nodes; capacity = m.capacity; branching = m.branching; seed = m.seed; size = m.size; known = (inr (inr (inl refl)), m.known) })
-
-said_capacity : (said t s : Settings) (name value : List ℕ) (sayings : List Saying) → name ≡ codes "capacity" → with_capacity said value ≡ Some t → AreSettings sayings t s → AreSettings (Valued name value ∷ sayings) said s
-unfolding with_capacity
-said_capacity said t s name value sayings is h more =
-    let g = given (number_in value) said.capacity (λ k. record said { capacity = k }) t h in
-    let m = subst (λ x. AreSettings sayings x s) g.3 more in
-    subst (λ n. AreSettings (Valued n value ∷ sayings) said s) (sym is)
-    (record { kind = m.kind; queue = m.queue; workers = m.workers; nodes = m.nodes; capacity = becomes_more number_in value (values_of (codes "capacity") sayings) said.capacity s.capacity g.1 g.0 g.2 m.capacity; branching = m.branching; seed = m.seed; size = m.size; known = (inr (inr (inr (inl refl))), m.known) })
-
-said_branching : (said t s : Settings) (name value : List ℕ) (sayings : List Saying) → name ≡ codes "branching" → with_branching said value ≡ Some t → AreSettings sayings t s → AreSettings (Valued name value ∷ sayings) said s
-unfolding with_branching
-said_branching said t s name value sayings is h more =
-    let g = given (branching_of value) said.branching (λ k. record said { branching = k }) t h in
-    let m = subst (λ x. AreSettings sayings x s) g.3 more in
-    subst (λ n. AreSettings (Valued n value ∷ sayings) said s) (sym is)
-    (record { kind = m.kind; queue = m.queue; workers = m.workers; nodes = m.nodes; capacity = m.capacity; branching = becomes_more branching_of value (values_of (codes "branching") sayings) said.branching s.branching g.1 g.0 g.2 m.branching; seed = m.seed; size = m.size; known = (inr (inr (inr (inr (inl refl)))), m.known) })
-
-said_seed : (said t s : Settings) (name value : List ℕ) (sayings : List Saying) → name ≡ codes "seed" → with_seed said value ≡ Some t → AreSettings sayings t s → AreSettings (Valued name value ∷ sayings) said s
-unfolding with_seed
-said_seed said t s name value sayings is h more =
-    let g = given (number_in value) said.seed (λ k. record said { seed = k }) t h in
-    let m = subst (λ x. AreSettings sayings x s) g.3 more in
-    subst (λ n. AreSettings (Valued n value ∷ sayings) said s) (sym is)
-    (record { kind = m.kind; queue = m.queue; workers = m.workers; nodes = m.nodes; capacity = m.capacity; branching = m.branching; seed = becomes_more number_in value (values_of (codes "seed") sayings) said.seed s.seed g.1 g.0 g.2 m.seed; size = m.size; known = (inr (inr (inr (inr (inr (inl refl))))), m.known) })
-
-said_size : (said t s : Settings) (name value : List ℕ) (sayings : List Saying) → name ≡ codes "size" → with_size said value ≡ Some t → AreSettings sayings t s → AreSettings (Valued name value ∷ sayings) said s
-unfolding with_size
-said_size said t s name value sayings is h more =
-    let g = given (number_in value) said.size (λ k. record said { size = k }) t h in
-    let m = subst (λ x. AreSettings sayings x s) g.3 more in
-    subst (λ n. AreSettings (Valued n value ∷ sayings) said s) (sym is)
-    (record { kind = m.kind; queue = m.queue; workers = m.workers; nodes = m.nodes; capacity = m.capacity; branching = m.branching; seed = m.seed; size = becomes_more number_in value (values_of (codes "size") sayings) said.size s.size g.1 g.0 g.2 m.size; known = (inr (inr (inr (inr (inr (inr (refl)))))), m.known) })
-
-said_option : (said t s : Settings) (name value : List ℕ) (sayings : List Saying) → with_option said name value ≡ Some t → AreSettings sayings t s → AreSettings (Valued name value ∷ sayings) said s
-said_option said t s name value sayings h more = elim (option_is said t name value h) [
-  | inl a ↦ said_queue said t s name value sayings a.0 a.1 more
-  | inr (inl a) ↦ said_workers said t s name value sayings a.0 a.1 more
-  | inr (inr (inl a)) ↦ said_nodes said t s name value sayings a.0 a.1 more
-  | inr (inr (inr (inl a))) ↦ said_capacity said t s name value sayings a.0 a.1 more
-  | inr (inr (inr (inr (inl a)))) ↦ said_branching said t s name value sayings a.0 a.1 more
-  | inr (inr (inr (inr (inr (inl a))))) ↦ said_seed said t s name value sayings a.0 a.1 more
-  | inr (inr (inr (inr (inr (inr (a)))))) ↦ said_size said t s name value sayings a.0 a.1 more
-]
 
 pub all_are_settings : (said s : Settings) (sayings : List Saying) → with_all said sayings ≡ Some s → AreSettings sayings said s
 all_are_settings said s [] h = record { kind = cc; queue = cc; workers = cc; nodes = cc; capacity = cc; branching = cc; seed = cc; size = cc; known = tt }
@@ -248,7 +126,7 @@ all_are_settings said s (Named word ∷ sayings) h =
     said_kind said b.0 s word sayings b.1 (all_are_settings b.0 s sayings b.2)
 all_are_settings said s (Valued name value ∷ sayings) h =
     let b = bound_is (with_option said name value) (λ t. with_all t sayings) s h in
-    said_option said b.0 s name value sayings b.1 (all_are_settings b.0 s sayings b.2)
+    said_by_option said b.0 s name value sayings b.1 (all_are_settings b.0 s sayings b.2)
 
 -- settings that are said are those that the things said give
 
@@ -260,88 +138,6 @@ kind_said said s word sayings a =
       giving (kind_of word) said.kind (λ k. record said { kind = k }) b.1 b.0 b.2,
       record { kind = b.3; queue = a.queue; workers = a.workers; nodes = a.nodes; capacity = a.capacity; branching = a.branching; seed = a.seed; size = a.size; known = a.known },
     )
-
-queue_said : (said s : Settings) (value : List ℕ) (sayings : List Saying) → AreSettings (Valued (codes "queue") value ∷ sayings) said s → (t : Settings) × (with_option said (codes "queue") value ≡ Some t) × AreSettings sayings t s
-unfolding with_queue with_option
-queue_said said s value sayings a =
-    let b = becomes_less which_of value (values_of (codes "queue") sayings) said.queue s.queue a.queue in (
-      record said { queue = Some b.1 },
-      giving (which_of value) said.queue (λ k. record said { queue = k }) b.1 b.0 b.2,
-      record { kind = a.kind; queue = b.3; workers = a.workers; nodes = a.nodes; capacity = a.capacity; branching = a.branching; seed = a.seed; size = a.size; known = a.known.1 },
-    )
-
-workers_said : (said s : Settings) (value : List ℕ) (sayings : List Saying) → AreSettings (Valued (codes "workers") value ∷ sayings) said s → (t : Settings) × (with_option said (codes "workers") value ≡ Some t) × AreSettings sayings t s
-unfolding with_workers with_option
-workers_said said s value sayings a =
-    let b = becomes_less number_in value (values_of (codes "workers") sayings) said.workers s.workers a.workers in (
-      record said { workers = Some b.1 },
-      giving (number_in value) said.workers (λ k. record said { workers = k }) b.1 b.0 b.2,
-      record { kind = a.kind; queue = a.queue; workers = b.3; nodes = a.nodes; capacity = a.capacity; branching = a.branching; seed = a.seed; size = a.size; known = a.known.1 },
-    )
-
-nodes_said : (said s : Settings) (value : List ℕ) (sayings : List Saying) → AreSettings (Valued (codes "nodes") value ∷ sayings) said s → (t : Settings) × (with_option said (codes "nodes") value ≡ Some t) × AreSettings sayings t s
-unfolding with_nodes with_option
-nodes_said said s value sayings a =
-    let b = becomes_less number_in value (values_of (codes "nodes") sayings) said.nodes s.nodes a.nodes in (
-      record said { nodes = Some b.1 },
-      giving (number_in value) said.nodes (λ k. record said { nodes = k }) b.1 b.0 b.2,
-      record { kind = a.kind; queue = a.queue; workers = a.workers; nodes = b.3; capacity = a.capacity; branching = a.branching; seed = a.seed; size = a.size; known = a.known.1 },
-    )
-
-capacity_said : (said s : Settings) (value : List ℕ) (sayings : List Saying) → AreSettings (Valued (codes "capacity") value ∷ sayings) said s → (t : Settings) × (with_option said (codes "capacity") value ≡ Some t) × AreSettings sayings t s
-unfolding with_capacity with_option
-capacity_said said s value sayings a =
-    let b = becomes_less number_in value (values_of (codes "capacity") sayings) said.capacity s.capacity a.capacity in (
-      record said { capacity = Some b.1 },
-      giving (number_in value) said.capacity (λ k. record said { capacity = k }) b.1 b.0 b.2,
-      record { kind = a.kind; queue = a.queue; workers = a.workers; nodes = a.nodes; capacity = b.3; branching = a.branching; seed = a.seed; size = a.size; known = a.known.1 },
-    )
-
-branching_said : (said s : Settings) (value : List ℕ) (sayings : List Saying) → AreSettings (Valued (codes "branching") value ∷ sayings) said s → (t : Settings) × (with_option said (codes "branching") value ≡ Some t) × AreSettings sayings t s
-unfolding with_branching with_option
-branching_said said s value sayings a =
-    let b = becomes_less branching_of value (values_of (codes "branching") sayings) said.branching s.branching a.branching in (
-      record said { branching = Some b.1 },
-      giving (branching_of value) said.branching (λ k. record said { branching = k }) b.1 b.0 b.2,
-      record { kind = a.kind; queue = a.queue; workers = a.workers; nodes = a.nodes; capacity = a.capacity; branching = b.3; seed = a.seed; size = a.size; known = a.known.1 },
-    )
-
-seed_said : (said s : Settings) (value : List ℕ) (sayings : List Saying) → AreSettings (Valued (codes "seed") value ∷ sayings) said s → (t : Settings) × (with_option said (codes "seed") value ≡ Some t) × AreSettings sayings t s
-unfolding with_seed with_option
-seed_said said s value sayings a =
-    let b = becomes_less number_in value (values_of (codes "seed") sayings) said.seed s.seed a.seed in (
-      record said { seed = Some b.1 },
-      giving (number_in value) said.seed (λ k. record said { seed = k }) b.1 b.0 b.2,
-      record { kind = a.kind; queue = a.queue; workers = a.workers; nodes = a.nodes; capacity = a.capacity; branching = a.branching; seed = b.3; size = a.size; known = a.known.1 },
-    )
-
-size_said : (said s : Settings) (value : List ℕ) (sayings : List Saying) → AreSettings (Valued (codes "size") value ∷ sayings) said s → (t : Settings) × (with_option said (codes "size") value ≡ Some t) × AreSettings sayings t s
-unfolding with_size with_option
-size_said said s value sayings a =
-    let b = becomes_less number_in value (values_of (codes "size") sayings) said.size s.size a.size in (
-      record said { size = Some b.1 },
-      giving (number_in value) said.size (λ k. record said { size = k }) b.1 b.0 b.2,
-      record { kind = a.kind; queue = a.queue; workers = a.workers; nodes = a.nodes; capacity = a.capacity; branching = a.branching; seed = a.seed; size = b.3; known = a.known.1 },
-    )
-
-option_named : (said s : Settings) (name value : List ℕ) (sayings : List Saying) → AreSettings (Valued name value ∷ sayings) said s → IsOptionName name →
-    (t : Settings) × (with_option said name value ≡ Some t) × AreSettings sayings t s
-option_named said s name value sayings a is =
-    let Goal : List ℕ → Type 0 = λ n. AreSettings (Valued n value ∷ sayings) said s → (t : Settings) × (with_option said n value ≡ Some t) × AreSettings sayings t s in
-    elim is [
-      | inl e ↦ subst Goal (sym e) (queue_said said s value sayings) a
-      | inr (inl e) ↦ subst Goal (sym e) (workers_said said s value sayings) a
-      | inr (inr (inl e)) ↦ subst Goal (sym e) (nodes_said said s value sayings) a
-      | inr (inr (inr (inl e))) ↦ subst Goal (sym e) (capacity_said said s value sayings) a
-      | inr (inr (inr (inr (inl e)))) ↦ subst Goal (sym e) (branching_said said s value sayings) a
-      | inr (inr (inr (inr (inr (inl e))))) ↦ subst Goal (sym e) (seed_said said s value sayings) a
-      | inr (inr (inr (inr (inr (inr (e)))))) ↦ subst Goal (sym e) (size_said said s value sayings) a
-    ]
-
--- one option, whichever it is
-option_said : (said s : Settings) (name value : List ℕ) (sayings : List Saying) → AreSettings (Valued name value ∷ sayings) said s →
-    (t : Settings) × (with_option said name value ≡ Some t) × AreSettings sayings t s
-option_said said s name value sayings a = option_named said s name value sayings a a.known.0
 
 pub settings_are_all : (said s : Settings) (sayings : List Saying) → AreSettings sayings said s → with_all said sayings ≡ Some s
 settings_are_all said s [] a = ap (λ x. Some x) (sym (same_settings s said a.kind a.queue a.workers a.nodes a.capacity a.branching a.seed a.size))

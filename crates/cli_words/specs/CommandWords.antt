@@ -107,19 +107,25 @@ nothing = record {
   size = None;
 }
 
+-- Each command: its name, and what it is with the settings that are said.
+abbrev pub commands : List (List ℕ × (Settings → Option Command))
+commands =
+    (codes "solve", solve_from) ∷ (codes "bound", bound_from) ∷ (codes "check", check_from)
+    ∷ (codes "prove", prove_from) ∷ (codes "verify", verify_from) ∷ (codes "trace", trace_from)
+    ∷ (codes "audit", audit_from) ∷ (codes "make", make_from) ∷ (codes "drill", drill_from) ∷ []
+
+-- the names of the commands
+abbrev pub command_names : List (List ℕ)
+command_names = map (λ c. c.0) commands
+
+-- the one of this name, with these settings
+abbrev pub among : List (List ℕ × (Settings → Option Command)) → List ℕ → Settings → Option Command
+among [] name said = None
+among (c ∷ more) name said = if bytes_eq name c.0 then c.1 said else among more name said
+
 -- the command of this name with these settings
 abbrev pub command_from : List ℕ → Settings → Option Command
-command_from name said =
-    if bytes_eq name (codes "solve") then solve_from said
-    else if bytes_eq name (codes "bound") then bound_from said
-    else if bytes_eq name (codes "check") then check_from said
-    else if bytes_eq name (codes "prove") then prove_from said
-    else if bytes_eq name (codes "verify") then verify_from said
-    else if bytes_eq name (codes "trace") then trace_from said
-    else if bytes_eq name (codes "audit") then audit_from said
-    else if bytes_eq name (codes "make") then make_from said
-    else if bytes_eq name (codes "drill") then drill_from said
-    else None
+command_from name said = among commands name said
 
 -- The command that the words say; None where no command reads them.
 unfoldable pub command_of : List (List ℕ) → Option Command

@@ -1,5 +1,5 @@
 -- What clap is told of the words, and what is read of what it found.
-use Rattle.std.specs.Prelude.{Bool, List, codes, Option, Some, None, true, Result, Ok, Err}
+use Rattle.std.specs.Prelude.{Bool, List, codes, fold, Option, Some, None, true, Result, Ok, Err}
 use Rattle.std.specs.List.{list_any}
 use Rattle.std.specs.Option.{ok_or}
 use Rattle.std.specs.Str.{bytes_eq}
@@ -15,7 +15,7 @@ use Rattle.cli_words.specs.declared.command.Command.{Command}
 use Rattle.cli_words.specs.declared.settings.Settings.{Settings}
 use Rattle.cli_words.specs.declared.reading.WordsRefusal.{WordsRefusal}
 use Rattle.cli_words.specs.declared.reading.WordsRefusal.TheVariants.{BadWords, NoMemory}
-use Rattle.cli_words.specs.CommandWords.{command_from}
+use Rattle.cli_words.specs.CommandWords.{command_from, command_names}
 use Rattle.cli_words.specs.Queues.{which_of}
 use Rattle.cli_words.specs.Words.{◌>>=◌, kind_of, branching_of, number_in}
 
@@ -48,11 +48,9 @@ bare_app = on_top (λ s. record s {
   subcommand_required = true;
 }) (new_app (codes "vogbare"))
 
+-- with each command
 abbrev pub parser_app : App
-parser_app =
-    with_command (with_command (with_command (with_command (with_command (with_command (with_command (with_command
-    (with_command bare_app (codes "solve")) (codes "bound")) (codes "check")) (codes "prove")) (codes "verify"))
-    (codes "trace")) (codes "audit")) (codes "make")) (codes "drill")
+parser_app = fold with_command bare_app command_names
 
 -- one of the words is the end of the options, behind which clap would take each word as it stands
 abbrev pub has_end : List Text → Bool

@@ -8,25 +8,25 @@ ghost use Rattle.cli_words.specs.Parser.{kind_rule, option_rule, parser_app, wor
 use clap::{Arg, ArgAction, Command};
 use std::alloc::{AllocError, Global};
 
+// The names of the commands.
+const COMMANDS: [&str; 9] = [
+    "solve", "bound", "check", "prove", "verify", "trace", "audit", "make", "drill",
+];
+
 /// The command line: each command is a subcommand, and takes a problem and options. Which of them a command has, and
 /// what their texts may be, is no matter of clap's.
 pub fn parser<'a>(alloc: Global) -> Result<Command<'a>, AllocError>
     ensures { IfOk result (λ c. app_of c ≡ parser_app) }
 {
-    let bare = Command::new(alloc, "vogbare")
+    let mut app = Command::new(alloc, "vogbare")
         .no_binary_name(true)
         .disable_help_flag(true)
         .disable_help_subcommand(true)
         .subcommand_required(true);
-    bare.subcommand(worded(alloc, "solve")?)?
-        .subcommand(worded(alloc, "bound")?)?
-        .subcommand(worded(alloc, "check")?)?
-        .subcommand(worded(alloc, "prove")?)?
-        .subcommand(worded(alloc, "verify")?)?
-        .subcommand(worded(alloc, "trace")?)?
-        .subcommand(worded(alloc, "audit")?)?
-        .subcommand(worded(alloc, "make")?)?
-        .subcommand(worded(alloc, "drill")?)
+    for name in COMMANDS {
+        app = app.subcommand(worded(alloc, name)?)?;
+    }
+    Ok(app)
 }
 
 // A command with its words.
