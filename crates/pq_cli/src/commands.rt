@@ -68,8 +68,9 @@ pub fn answer_still<I: Source>(
     work_still(alloc, command, &bytes)
 }
 
-/// What the command answers to the input, with this gate at the points of the queue's calls.
-#[tactic(auto, using(crate::proofs::Explained::fulfilled))]
+/// What the command answers to the input, with this gate at the points of the queue's calls. A queue has its one arm
+/// here.
+#[tactic(auto, using(crate::proofs::Explained::fulfilled, crate::proofs::Shared::queue_is_shared))]
 pub fn answer<Rt: Threads + Wait + Sync, I: Source, G: Gate>(
     rt: &Rt,
     alloc: Global,
@@ -84,7 +85,10 @@ pub fn answer<Rt: Threads + Wait + Sync, I: Source, G: Gate>(
     ensures stops { IfErr result (Stops (duty_of command) (change I.left I.faults input.old input.new)) }
 {
     let bytes = input_of(alloc, command, input)?;
-    work(rt, alloc, command, &bytes, gate)
+    match command.queue() {
+        Some(Which::Hunt) => work_on::<Rt, HuntHeap<&G>>(rt, alloc, command, &bytes, gate),
+        Some(Which::Plain) | None => work_still(alloc, command, &bytes),
+    }
 }
 
 // Whether the command reads an input.
@@ -106,24 +110,6 @@ fn input_of<I: Source>(alloc: Global, command: Command, input: &mut I) -> Result
     }
     let bytes = gather_input(alloc, input)?;
     Ok(bytes)
-}
-
-// What the command answers to these bytes. A queue has its one line here.
-#[tactic(auto, using(crate::proofs::Shared::queue_is_shared))]
-fn work<Rt: Threads + Wait + Sync, G: Gate>(
-    rt: &Rt,
-    alloc: Global,
-    command: Command,
-    bytes: &[u8],
-    gate: &G,
-) -> Result<Answer, Refusal>
-    requires limits { HasLimits command }
-    ensures { Fulfils (duty_of command) bytes.now result }
-{
-    match command.queue() {
-        Some(Which::Hunt) => work_on::<Rt, HuntHeap<&G>>(rt, alloc, command, bytes, gate),
-        Some(Which::Plain) | None => work_still(alloc, command, bytes),
-    }
 }
 
 // What a command that uses a queue answers to these bytes, where the queue is of this kind.
