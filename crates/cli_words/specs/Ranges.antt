@@ -28,7 +28,7 @@ workers_for queue said = within 1 (profile_of queue).most_callers (unwrap_or sai
 abbrev pub nodes_for : Which → Option ℕ → Option ℕ
 nodes_for queue said = within 1 (profile_of queue).most_nodes (unwrap_or said (profile_of queue).default_nodes)
 
--- How many nodes its queue takes: as many as workers at least. Where it is not said, they are the nodes and the workers.
+-- How many nodes its queue takes: as many as workers at least. Where it is not said, as many as nodes and workers.
 abbrev pub room_for : Which → ℕ → ℕ → Option ℕ → Option ℕ
 room_for queue workers nodes said = within workers (profile_of queue).most_capacity (unwrap_or said (nodes + workers))
 
