@@ -10,6 +10,7 @@ use std::test::Fail;
 use std::thread::Threads;
 
 mod answers;
+mod hostile;
 mod lanes;
 mod refusals;
 mod workers;
@@ -77,6 +78,36 @@ fn run_with<Rt: Threads + Wait + Sync, G: Gate>(
     })
 }
 
+// What a call without threads came to: the status, the three streams.
+#[derive(Drop)]
+struct RanStill {
+    status: Status,
+    source: MemorySource,
+    output: MemorySink,
+    faults: MemorySink,
+}
+
+// Runs the words on these bytes without threads, where these calls fail and the output takes so many bytes.
+fn run_still_with(
+    alloc: Global,
+    words: &[&str],
+    bytes: Vec<u8>,
+    failing: &Failing,
+    room: u32,
+) -> Result<RanStill, Fail> {
+    let words = owned(alloc, words)?;
+    let mut source = MemorySource::new(bytes, vec![in alloc; failing.reads]?);
+    let mut output = MemorySink::new(alloc, room, vec![in alloc; failing.writes]?)?;
+    let mut faults = MemorySink::new(alloc, 200, vec![in alloc; failing.lines]?)?;
+    let status = run_still(alloc, &words, &mut source, &mut output, &mut faults);
+    Ok(RanStill {
+        status,
+        source,
+        output,
+        faults,
+    })
+}
+
 // Runs the words on the input, where these calls fail, and compares the status, the output, the line in the faults and
 // the counts.
 fn expect(
@@ -87,16 +118,16 @@ fn expect(
     failing: &Failing,
     wanted: (Status, &str, &str),
 ) -> Result<(), Fail> {
-    let words = owned(alloc, words)?;
     let bytes = Vec::from_slice(alloc, input.as_bytes())?;
-    let mut source = MemorySource::new(bytes, vec![in alloc; failing.reads]?);
-    let mut output = MemorySink::new(alloc, 200, vec![in alloc; failing.writes]?)?;
-    let mut faults = MemorySink::new(alloc, 200, vec![in alloc; failing.lines]?)?;
-    let status = run_still(alloc, &words, &mut source, &mut output, &mut faults);
-    assert_eq!(rt; status, wanted.0, "of {input:?}");
-    assert_eq!(rt; output.bytes(), wanted.1.as_bytes(), "of {input:?}");
-    assert_eq!(rt; faults.bytes(), wanted.2.as_bytes(), "of {input:?}");
-    let counts = [source.faults(), output.faults(), faults.faults()];
+    let ran = run_still_with(alloc, words, bytes, failing, 200)?;
+    assert_eq!(rt; ran.status, wanted.0, "of {input:?}");
+    assert_eq!(rt; ran.output.bytes(), wanted.1.as_bytes(), "of {input:?}");
+    assert_eq!(rt; ran.faults.bytes(), wanted.2.as_bytes(), "of {input:?}");
+    let counts = [
+        ran.source.faults(),
+        ran.output.faults(),
+        ran.faults.faults(),
+    ];
     let failed = [failing.reads, failing.writes, failing.lines].map(|call| u64::from(call.min(1)));
     assert_eq!(rt; counts, failed);
     Ok(())
