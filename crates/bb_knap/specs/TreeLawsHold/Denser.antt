@@ -29,13 +29,16 @@ cross sa wa sb zero sc wc some ab bc =
 cross sa wa sb (suc w) sc wc some ab bc =
     cancel (sa * wc) (sc * wa) (suc w) (omega arith) (omega (arith, mul-le-mul_right wc ab, mul-le-mul_right wa bc))
 
-denser-true_at : (va wa vb wb : ℕ) → cond (nat_eq wa 0) (nat_lt 0 wb) (nat_lt (vb * wa) (va * wb)) ≡ true → cond (nat_eq wb 0) 1 vb * wa < cond (nat_eq wa 0) 1 va * wb
+denser-true_at : (va wa vb wb : ℕ) → cond (nat_eq wa 0) (nat_lt 0 wb) (nat_lt (vb * wa) (va * wb)) ≡ true
+    → cond (nat_eq wb 0) 1 vb * wa < cond (nat_eq wa 0) 1 va * wb
 denser-true_at va zero vb zero h = absurd (cc)
 denser-true_at va zero vb (suc w) h = omega arith
-denser-true_at va (suc w) vb zero h = let lt : vb * suc w < va * zero = grind (arith, nat_tests) in absurd (omega (arith, lt))
+denser-true_at va (suc w) vb zero h =
+    let lt : vb * suc w < va * zero = grind (arith, nat_tests) in absurd (omega (arith, lt))
 denser-true_at va (suc w) vb (suc u) h = grind (arith, nat_tests)
 
-denser-false_at : (va wa vb wb : ℕ) → cond (nat_eq wa 0) (nat_lt 0 wb) (nat_lt (vb * wa) (va * wb)) ≡ false → cond (nat_eq wa 0) 1 va * wb ≤ cond (nat_eq wb 0) 1 vb * wa
+denser-false_at : (va wa vb wb : ℕ) → cond (nat_eq wa 0) (nat_lt 0 wb) (nat_lt (vb * wa) (va * wb)) ≡ false
+    → cond (nat_eq wa 0) 1 va * wb ≤ cond (nat_eq wb 0) 1 vb * wa
 denser-false_at va zero vb zero h = omega arith
 denser-false_at va zero vb (suc w) h = absurd (omega (arith, ltb-false 0 (suc w) h))
 denser-false_at va (suc w) vb zero h = omega arith
@@ -79,11 +82,13 @@ or_false false false l h = (refl, inr h)
 -- the first item's value for its weight is at most the second's, and their numbers tell apart equal ones
 record IsAtMost (items : List Item) (j k : ℕ) : Type 0 where
   ratio : score (item_at items j) * (item_at items k).weight ≤ score (item_at items k) * (item_at items j).weight
-  number : (score (item_at items j) * (item_at items k).weight < score (item_at items k) * (item_at items j).weight) ⊎ (k ≤ j)
+  number : (score (item_at items j) * (item_at items k).weight < score (item_at items k) * (item_at items j).weight)
+      ⊎ (k ≤ j)
 
 before-true : (items : List Item) (j k : ℕ) → goes_before items j k ≡ true
     → (score (item_at items k) * (item_at items j).weight ≤ score (item_at items j) * (item_at items k).weight)
-    × ((score (item_at items k) * (item_at items j).weight < score (item_at items j) * (item_at items k).weight) ⊎ (j < k))
+    × ((score (item_at items k) * (item_at items j).weight < score (item_at items j) * (item_at items k).weight)
+    ⊎ (j < k))
 unfolding goes_before
 before-true items j k h =
     let a = item_at items j in
@@ -112,14 +117,17 @@ IsAtMost-trans items i j k first second =
     let a = item_at items i in
     let b = item_at items j in
     let c = item_at items k in
-    let whole : score a * c.weight ≤ score c * a.weight = cross (score a) a.weight (score b) b.weight (score c) c.weight (score_pos b) first.ratio second.ratio in
+    let whole : score a * c.weight ≤ score c * a.weight =
+    cross (score a) a.weight (score b) b.weight (score c) c.weight (score_pos b) first.ratio second.ratio in
     record {
       ratio = whole;
       number = elim (cases_lt (score a * c.weight) (score c * a.weight)) [
         | inl lt ↦ inl lt
         | inr le ↦
-            let ba : score b * a.weight ≤ score a * b.weight = cross (score b) b.weight (score c) c.weight (score a) a.weight (score_pos c) second.ratio le in
-            let cb : score c * b.weight ≤ score b * c.weight = cross (score c) c.weight (score a) a.weight (score b) b.weight (score_pos a) le first.ratio in
+            let ba : score b * a.weight ≤ score a * b.weight =
+            cross (score b) b.weight (score c) c.weight (score a) a.weight (score_pos c) second.ratio le in
+            let cb : score c * b.weight ≤ score b * c.weight =
+            cross (score c) c.weight (score a) a.weight (score b) b.weight (score_pos a) le first.ratio in
             inr (elim first.number [
               | inl lt ↦ absurd (omega (arith, lt, ba))
               | inr le1 ↦ elim second.number [
@@ -158,7 +166,8 @@ is_order items = record {
       ];
   chain = λ i j k ij jk.
       elim (cases_Bool (goes_before items i k)) [
-        | inl stands ↦ absurd (at_most-before items i k (IsAtMost-trans items i j k (before-false items i j ij) (before-false items j k jk)) stands)
+        | inl stands ↦ absurd (at_most-before items i k
+            (IsAtMost-trans items i j k (before-false items i j ij) (before-false items j k jk)) stands)
         | inr fails ↦ fails
       ];
 }
@@ -177,7 +186,8 @@ same_place items j k one other =
     ]
 
 -- the values for their weight, by products, of items that do not stand before another
-pub ratio_behind : (items : List Item) (j k : ℕ) → goes_before items j k ≡ false → (item_at items j).value * (item_at items k).weight ≤ (item_at items k).value * (item_at items j).weight
+pub ratio_behind : (items : List Item) (j k : ℕ) → goes_before items j k ≡ false
+    → (item_at items j).value * (item_at items k).weight ≤ (item_at items k).value * (item_at items j).weight
 unfolding goes_before
 ratio_behind items j k h =
     let a = item_at items j in

@@ -1,5 +1,6 @@
 -- What decisions take.
-use Rattle.std.proofs.Common.{◌≡◌, ℕ, zero, suc, ◌+◌, ◌<◌, ◌≤◌, Bool, true, false, cond, List, [], ◌∷◌, ◌++◌, inl, inr, refl, ap, ◌∙◌, length, drop, eqb, arith}
+use Rattle.std.proofs.Common.{◌≡◌, ℕ, zero, suc, ◌+◌, ◌<◌, ◌≤◌, Bool, true, false, cond, List, [], ◌∷◌, ◌++◌, inl, inr}
+use Rattle.std.proofs.Common.{refl, ap, ◌∙◌, length, drop, eqb, arith}
 use Rattle.std.specs.Prelude.{◌||◌}
 use Rattle.std.proofs.lemmas.Bool.{cases_lt}
 use Rattle.std.proofs.lemmas.Bool.Decides.{eqb_tells}
@@ -56,21 +57,25 @@ decisions_for choice (k ∷ ks) = cond (is_among choice k) 1 0 ∷ decisions_for
 abbrev pub where_ : (ℕ → Bool) → (ℕ → ℕ) → ℕ → ℕ
 where_ p f k = cond (p k) (f k) 0
 
-total-decided_at : (f : ℕ → ℕ) (k : ℕ) (ks ds : List ℕ) (rest : ℕ) → total f (taken ks ds) ≡ rest → (b : Bool) → total f (taken (k ∷ ks) (cond b 1 0 ∷ ds)) ≡ cond b (f k) 0 + rest
+total-decided_at : (f : ℕ → ℕ) (k : ℕ) (ks ds : List ℕ) (rest : ℕ) → total f (taken ks ds) ≡ rest → (b : Bool)
+    → total f (taken (k ∷ ks) (cond b 1 0 ∷ ds)) ≡ cond b (f k) 0 + rest
 unfolding taken
 total-decided_at f k ks ds rest e true = ap (λ n. f k + n) e
 total-decided_at f k ks ds rest e false = omega (arith, e)
 
-pub total-decided : (f : ℕ → ℕ) (choice ks : List ℕ) → total f (taken ks (decisions_for choice ks)) ≡ total (where_ (is_among choice) f) ks
+pub total-decided : (f : ℕ → ℕ) (choice ks : List ℕ)
+    → total f (taken ks (decisions_for choice ks)) ≡ total (where_ (is_among choice) f) ks
 total-decided f choice [] = ap (total f) (taken-nothing [])
 total-decided f choice (k ∷ ks) =
-    total-decided_at f k ks (decisions_for choice ks) (total (where_ (is_among choice) f) ks) (total-decided f choice ks) (is_among choice k)
+    total-decided_at f k ks (decisions_for choice ks) (total (where_ (is_among choice) f) ks)
+    (total-decided f choice ks) (is_among choice k)
 
 -- one number more that passes the test
 more_at : (f : ℕ → ℕ) (k : ℕ) (b : Bool) → b ≡ false → cond (true || b) (f k) 0 ≡ f k + cond b (f k) 0
 more_at f k b h = rw h (omega arith)
 
-sum_below-without : (p : ℕ → Bool) (f : ℕ → ℕ) (c n : ℕ) → n ≤ c → sum_below (where_ (λ k. eqb c k || p k) f) n ≡ sum_below (where_ p f) n
+sum_below-without : (p : ℕ → Bool) (f : ℕ → ℕ) (c n : ℕ) → n ≤ c
+    → sum_below (where_ (λ k. eqb c k || p k) f) n ≡ sum_below (where_ p f) n
 sum_below-without p f c zero le = refl
 sum_below-without p f c (suc n) le =
     elim (eqb_tells c n) [
@@ -81,7 +86,8 @@ sum_below-without p f c (suc n) le =
 below_other : (c n : ℕ) → c < suc n → (c ≡ n → ⊥) → c < n
 below_other c n lt other = elim (cases_lt c n) [ inl below ↦ below | inr le ↦ absurd (other (omega (arith, lt, le))) ]
 
-sum_below-with : (p : ℕ → Bool) (f : ℕ → ℕ) (c n : ℕ) → p c ≡ false → c < n → sum_below (where_ (λ k. eqb c k || p k) f) n ≡ f c + sum_below (where_ p f) n
+sum_below-with : (p : ℕ → Bool) (f : ℕ → ℕ) (c n : ℕ) → p c ≡ false → c < n
+    → sum_below (where_ (λ k. eqb c k || p k) f) n ≡ f c + sum_below (where_ p f) n
 sum_below-with p f c zero not_yet lt = absurd (omega arith)
 sum_below-with p f c (suc n) not_yet lt =
     elim (eqb_tells c n) [
@@ -104,7 +110,8 @@ sum_below-zero zero = refl
 sum_below-zero (suc n) = omega (arith, sum_below-zero n)
 
 -- a choice adds up as its numbers do among all
-pub sum_below-among : (f : ℕ → ℕ) (low n : ℕ) (ks : List ℕ) → AreNumbers low n ks → sum_below (where_ (is_among ks) f) n ≡ total f ks
+pub sum_below-among : (f : ℕ → ℕ) (low n : ℕ) (ks : List ℕ) → AreNumbers low n ks
+    → sum_below (where_ (is_among ks) f) n ≡ total f ks
 sum_below-among f low n [] numbers = sum_below-zero n
 sum_below-among f low n (k ∷ ks) numbers =
     sum_below-with (is_among ks) f k n (is_among-low (k + 1) n k ks (numbers.2) (omega arith)) (numbers.1)
