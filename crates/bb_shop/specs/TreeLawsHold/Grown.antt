@@ -32,28 +32,38 @@ le-greatest_each f i (suc n) k low high =
       | inr other ↦ omega (arith, le-greatest_each f (i + 1) n k (omega (arith, other)) (omega arith))
     ]
 
-pub greatest_each-le : (f : ℕ → ℕ) (i n v : ℕ) → ((k : ℕ) → i ≤ k → k < i + n → f k ≤ v) → greatest (each_from f i n) ≤ v
+pub greatest_each-le : (f : ℕ → ℕ) (i n v : ℕ) → ((k : ℕ) → i ≤ k → k < i + n → f k ≤ v)
+    → greatest (each_from f i n) ≤ v
 greatest_each-le f i zero v each = omega arith
 greatest_each-le f i (suc n) v each =
-    omega (arith, each i (omega arith) (omega arith), greatest_each-le f (i + 1) n v (λ k low high. each k (omega arith) (omega arith)))
+    omega (
+      arith,
+      each i (omega arith) (omega arith),
+      greatest_each-le f (i + 1) n v
+          (λ k low high. each k (omega arith) (omega arith)),
+    )
 
 -- A job finishes no earlier where it and the machines are ready no earlier.
-pub finish_grows : (old new : List ℕ) (r ready : ℕ) (os : List Operation) → AreAtMost old new → r ≤ ready → finish old r os ≤ finish new ready os
+pub finish_grows : (old new : List ℕ) (r ready : ℕ) (os : List Operation) → AreAtMost old new → r ≤ ready
+    → finish old r os ≤ finish new ready os
 unfolding finish
 finish_grows old new r ready [] most le = le
 finish_grows old new r ready (o ∷ os) most le =
-    finish_grows old new (head_of old r o + o.time) (head_of new ready o + o.time) os most (omega (arith, most.each o.machine))
+    finish_grows old new (head_of old r o + o.time) (head_of new ready o + o.time) os most
+    (omega (arith, most.each o.machine))
 
 pub finish-nil : (machines : List ℕ) (ready : ℕ) → finish machines ready [] ≡ ready
 unfolding finish
 finish-nil machines ready = refl
 
-pub finish-cons : (machines : List ℕ) (ready : ℕ) (o : Operation) (os : List Operation) → finish machines ready (o ∷ os) ≡ finish machines (head_of machines ready o + o.time) os
+pub finish-cons : (machines : List ℕ) (ready : ℕ) (o : Operation) (os : List Operation)
+    → finish machines ready (o ∷ os) ≡ finish machines (head_of machines ready o + o.time) os
 unfolding finish
 finish-cons machines ready o os = refl
 
 -- it takes at least the sum of its times
-pub time-le-finish : (machines : List ℕ) (ready : ℕ) (os : List Operation) → ready + row_time os ≤ finish machines ready os
+pub time-le-finish : (machines : List ℕ) (ready : ℕ) (os : List Operation)
+    → ready + row_time os ≤ finish machines ready os
 unfolding finish
 time-le-finish machines ready [] = omega arith
 time-le-finish machines ready (o ∷ os) = omega (arith, time-le-finish machines (head_of machines ready o + o.time) os)
