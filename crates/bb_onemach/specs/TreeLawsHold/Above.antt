@@ -1,6 +1,7 @@
 -- What the tasks above two thresholds ask of their machine: the least of their heads, the sum of their times and the
 -- least of their tails.
-use Rattle.std.proofs.Common.{◌≡◌, ℕ, zero, suc, ◌+◌, ◌<◌, ◌≤◌, inl, inr, List, [], ◌∷◌, refl, sym, ap, ◌∙◌, subst, length, get_or, arith}
+use Rattle.std.proofs.Common.{◌≡◌, ℕ, zero, suc, ◌+◌, ◌<◌, ◌≤◌, inl, inr, List, [], ◌∷◌, refl, sym, ap, ◌∙◌, subst}
+use Rattle.std.proofs.Common.{length, get_or, arith}
 use Rattle.std.specs.Prelude.{nat_le, if◌then◌else◌, Contains}
 use Rattle.std.proofs.lemmas.Bool.{cases_lt, cond-true, cond-false, le-leb, lt-leb}
 use Rattle.bb_problem.specs.Tree.{total}
@@ -11,15 +12,18 @@ use Rattle.bb_onemach.specs.Thresholds.{asked, load_above, threshold_bound}
 -- a task asks all of itself, or nothing
 pub asked-in : (h t : ℕ) (x : Task) → h ≤ x.head → t ≤ x.tail → asked h t x ≡ Busy x.head x.time x.tail
 asked-in h t x head tail =
-    cond-true (nat_le h x.head) (if nat_le t x.tail then Busy x.head x.time x.tail else Idle) Idle (le-leb h x.head head)
+    cond-true (nat_le h x.head) (if nat_le t x.tail then Busy x.head x.time x.tail else Idle) Idle
+    (le-leb h x.head head)
     ∙ cond-true (nat_le t x.tail) (Busy x.head x.time x.tail) Idle (le-leb t x.tail tail)
 
 pub asked-early : (h t : ℕ) (x : Task) → x.head < h → asked h t x ≡ Idle
-asked-early h t x lt = cond-false (nat_le h x.head) (if nat_le t x.tail then Busy x.head x.time x.tail else Idle) Idle (lt-leb h x.head lt)
+asked-early h t x lt =
+    cond-false (nat_le h x.head) (if nat_le t x.tail then Busy x.head x.time x.tail else Idle) Idle (lt-leb h x.head lt)
 
 pub asked-short : (h t : ℕ) (x : Task) → h ≤ x.head → x.tail < t → asked h t x ≡ Idle
 asked-short h t x head lt =
-    cond-true (nat_le h x.head) (if nat_le t x.tail then Busy x.head x.time x.tail else Idle) Idle (le-leb h x.head head)
+    cond-true (nat_le h x.head) (if nat_le t x.tail then Busy x.head x.time x.tail else Idle) Idle
+    (le-leb h x.head head)
     ∙ cond-false (nat_le t x.tail) (Busy x.head x.time x.tail) Idle (lt-leb t x.tail lt)
 
 -- the three cases
@@ -39,7 +43,8 @@ case_of h t x =
           ]
     ]
 
-pub load_above-cons : (h t : ℕ) (x : Task) (xs : List Task) → load_above h t (x ∷ xs) ≡ joined (asked h t x) (load_above h t xs)
+pub load_above-cons : (h t : ℕ) (x : Task) (xs : List Task)
+    → load_above h t (x ∷ xs) ≡ joined (asked h t x) (load_above h t xs)
 unfolding load_above
 load_above-cons h t x xs = refl
 
@@ -80,7 +85,14 @@ time_asked-short h t x head lt = ap load_time (asked-short h t x head lt)
 pub load_time-above : (h t : ℕ) (xs : List Task) → load_time (load_above h t xs) ≡ time_above h t xs
 unfolding load_time time_asked
 load_time-above h t [] = ap load_time (load_above-nil h t)
-load_time-above h t (x ∷ xs) = omega (arith, ap load_time (load_above-cons h t x xs), joined-time (asked h t x) (load_above h t xs), load_time-above h t xs)
+load_time-above h t (x ∷ xs) =
+    omega (
+      arith,
+      ap load_time (load_above-cons h t x xs),
+      joined-time (asked h t x)
+          (load_above h t xs),
+      load_time-above h t xs,
+    )
 
 -- a load has no head and no tail above this task's
 abbrev pub IsAtMost : Load → Task → Type 0
@@ -100,16 +112,21 @@ joined_most-right (Busy head time tail) Idle x most = absurd most
 joined_most-right (Busy head time tail) (Busy h t l) x most = (omega (arith, most.0), omega (arith, most.1))
 
 -- of each task above the thresholds
-least_at : (h t : ℕ) (xs : List Task) (x : Task) (i : ℕ) → i < length xs → get_or xs i x ≡ x → h ≤ x.head → t ≤ x.tail → IsAtMost (load_above h t xs) x
+least_at : (h t : ℕ) (xs : List Task) (x : Task) (i : ℕ) → i < length xs → get_or xs i x ≡ x → h ≤ x.head → t ≤ x.tail
+    → IsAtMost (load_above h t xs) x
 least_at h t [] x i lt is head tail = absurd (omega (arith, lt))
 least_at h t (y ∷ ys) x zero lt is head tail =
-    let busy : IsAtMost (asked h t y) x = subst (λ z. IsAtMost (asked h t z) x) (sym is) (subst (λ l. IsAtMost l x) (sym (asked-in h t x head tail)) (omega arith, omega arith)) in
-    subst (λ l. IsAtMost l x) (sym (load_above-cons h t y ys)) (joined_most-left (asked h t y) (load_above h t ys) x busy)
+    let busy : IsAtMost (asked h t y) x =
+    subst (λ z. IsAtMost (asked h t z) x) (sym is) (subst (λ l. IsAtMost l x) (sym (asked-in h t x head tail))
+    (omega arith, omega arith)) in
+    subst (λ l. IsAtMost l x) (sym (load_above-cons h t y ys))
+    (joined_most-left (asked h t y) (load_above h t ys) x busy)
 least_at h t (y ∷ ys) x (suc i) lt is head tail =
     subst (λ l. IsAtMost l x) (sym (load_above-cons h t y ys))
     (joined_most-right (asked h t y) (load_above h t ys) x (least_at h t ys x i (omega (arith, lt)) is head tail))
 
-pub least_of : (h t : ℕ) (xs : List Task) (x : Task) → Contains xs x → h ≤ x.head → t ≤ x.tail → IsAtMost (load_above h t xs) x
+pub least_of : (h t : ℕ) (xs : List Task) (x : Task) → Contains xs x → h ≤ x.head → t ≤ x.tail
+    → IsAtMost (load_above h t xs) x
 least_of h t xs x there head tail = least_at h t xs x there.0 there.1 there.2 head tail
 
 -- a task above the thresholds has the load's head
@@ -124,7 +141,8 @@ head_behind : (h t : ℕ) (y : Task) (ys : List Task) (l : Load) → HasHead h t
 head_behind h t y ys Idle has = tt
 head_behind h t y ys (Busy head time tail) has = (has.0, contains_behind y ys has.0 has.1, has.2, has.3, has.4)
 
-head_joined : (h t : ℕ) (xs : List Task) (a b : Load) → HasHead h t xs a → HasHead h t xs b → HasHead h t xs (joined a b)
+head_joined : (h t : ℕ) (xs : List Task) (a b : Load) → HasHead h t xs a → HasHead h t xs b
+    → HasHead h t xs (joined a b)
 unfolding joined
 head_joined h t xs Idle b p q = q
 head_joined h t xs (Busy head time tail) Idle p q = p
@@ -137,7 +155,8 @@ head_joined h t xs (Busy head time tail) (Busy head' time' tail') p q =
 head_asked : (h t : ℕ) (y : Task) (ys : List Task) → HasHead h t (y ∷ ys) (asked h t y)
 head_asked h t y ys =
     elim (case_of h t y) [
-      | Within head tail ↦ subst (HasHead h t (y ∷ ys)) (sym (asked-in h t y head tail)) (y, (0, omega arith, refl), refl, head, tail)
+      | Within head tail ↦
+          subst (HasHead h t (y ∷ ys)) (sym (asked-in h t y head tail)) (y, (0, omega arith, refl), refl, head, tail)
       | Early lt ↦ subst (HasHead h t (y ∷ ys)) (sym (asked-early h t y lt)) tt
       | Short head lt ↦ subst (HasHead h t (y ∷ ys)) (sym (asked-short h t y head lt)) tt
     ]
@@ -146,13 +165,16 @@ pub head_above : (h t : ℕ) (xs : List Task) → HasHead h t xs (load_above h t
 head_above h t [] = subst (HasHead h t []) (sym (load_above-nil h t)) tt
 head_above h t (y ∷ ys) =
     subst (HasHead h t (y ∷ ys)) (sym (load_above-cons h t y ys))
-    (head_joined h t (y ∷ ys) (asked h t y) (load_above h t ys) (head_asked h t y ys) (head_behind h t y ys (load_above h t ys) (head_above h t ys)))
+    (head_joined h t (y ∷ ys) (asked h t y) (load_above h t ys) (head_asked h t y ys)
+    (head_behind h t y ys (load_above h t ys) (head_above h t ys)))
 
 -- what holds of the three parts of a load holds of the load
 by_load : (h t : ℕ) (xs : List Task) (P : ℕ → Type 0) → P 0
     → ((head tail : ℕ) (x : Task) → Contains xs x → x.head ≡ head → h ≤ x.head → t ≤ x.tail
-    → ((y : Task) → Contains xs y → h ≤ y.head → t ≤ y.tail → (head ≤ y.head) × (tail ≤ y.tail)) → P (head + time_above h t xs + tail))
-    → (l : Load) → load_time l ≡ time_above h t xs → HasHead h t xs l → ((y : Task) → Contains xs y → h ≤ y.head → t ≤ y.tail → IsAtMost l y) → P (machine_bound l)
+    → ((y : Task) → Contains xs y → h ≤ y.head → t ≤ y.tail → (head ≤ y.head) × (tail ≤ y.tail))
+    → P (head + time_above h t xs + tail))
+    → (l : Load) → load_time l ≡ time_above h t xs → HasHead h t xs l
+    → ((y : Task) → Contains xs y → h ≤ y.head → t ≤ y.tail → IsAtMost l y) → P (machine_bound l)
 unfolding load_time
 by_load h t xs P none some Idle time has least = none
 by_load h t xs P none some (Busy head took tail) time has least =
@@ -160,6 +182,8 @@ by_load h t xs P none some (Busy head took tail) time has least =
 
 pub by_parts : (h t : ℕ) (xs : List Task) (P : ℕ → Type 0) → P 0
     → ((head tail : ℕ) (x : Task) → Contains xs x → x.head ≡ head → h ≤ x.head → t ≤ x.tail
-    → ((y : Task) → Contains xs y → h ≤ y.head → t ≤ y.tail → (head ≤ y.head) × (tail ≤ y.tail)) → P (head + time_above h t xs + tail))
+    → ((y : Task) → Contains xs y → h ≤ y.head → t ≤ y.tail → (head ≤ y.head) × (tail ≤ y.tail))
+    → P (head + time_above h t xs + tail))
     → P (threshold_bound xs h t)
-by_parts h t xs P none some = by_load h t xs P none some (load_above h t xs) (load_time-above h t xs) (head_above h t xs) (least_of h t xs)
+by_parts h t xs P none some =
+    by_load h t xs P none some (load_above h t xs) (load_time-above h t xs) (head_above h t xs) (least_of h t xs)

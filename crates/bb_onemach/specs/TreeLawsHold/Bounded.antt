@@ -1,10 +1,12 @@
 -- A node's bound is at most what it reaches, and within the limit of all times.
-use Rattle.std.proofs.Common.{◌≡◌, ℕ, ◌+◌, ◌-◌, ◌<◌, ◌≤◌, inl, inr, true, false, List, [], ◌∷◌, ◌++◌, refl, sym, ap, ◌∙◌, length, get_or, drop, map, arith}
+use Rattle.std.proofs.Common.{◌≡◌, ℕ, ◌+◌, ◌-◌, ◌<◌, ◌≤◌, inl, inr, true, false, List, [], ◌∷◌, ◌++◌, refl, sym, ap}
+use Rattle.std.proofs.Common.{◌∙◌, length, get_or, drop, map, arith}
 use Rattle.std.specs.Prelude.{nat_le, ◌&&◌, Bool, All, AllPairs, Contains, filter}
 use Rattle.std.proofs.lemmas.Bool.{cases_Bool, cond-true, cond-false}
 use Rattle.std.proofs.lemmas.Bool.Decides.{nat_tests}
 use Rattle.std.proofs.lemmas.List.{get_or-map, length-map, length-drop}
-use Rattle.std.proofs.lemmas.List.Elements.{All-filter, All-contains, All-contains_itself, filter_passes, Contains-get_or}
+use Rattle.std.proofs.lemmas.List.Elements.{All-filter, All-contains, All-contains_itself, filter_passes}
+use Rattle.std.proofs.lemmas.List.Elements.{Contains-get_or}
 use Rattle.std.proofs.lemmas.List.Kept.{AllPairs-filter}
 use Rattle.inst_text.specs.Limits.{max_total}
 use Rattle.inst_text.specs.Shop.{JobShop, IsJobShop}
@@ -28,7 +30,8 @@ use Rattle.bb_onemach.specs.Visits.{visits, is_left, task_of, tasks}
 use Rattle.bb_onemach.specs.Thresholds.{threshold_bound, bound_above, one_machine_bound}
 use Rattle.bb_onemach.specs.Bounds.{bound_by, bound_of}
 use Rattle.bb_onemach.specs.Branching.{Reaches}
-use Rattle.bb_onemach.specs.TreeLawsHold.Above.{time_above, time_asked-in, time_asked-early, time_asked-short, Within, Early, Short, case_of, by_parts}
+use Rattle.bb_onemach.specs.TreeLawsHold.Above.{time_above, time_asked-in, time_asked-early, time_asked-short, Within}
+use Rattle.bb_onemach.specs.TreeLawsHold.Above.{Early, Short, case_of, by_parts}
 use Rattle.bb_onemach.specs.TreeLawsHold.Packing.{Apart, IsIn, packed, le-from_test}
 use Rattle.bb_onemach.specs.TreeLawsHold.Starting.{IsVisit, visits_are, visits_in_order, heads-le, ends_with_tail}
 use Rattle.bb_onemach.specs.TreeLawsHold.Passing.{order_reaches}
@@ -44,9 +47,11 @@ keeps s name v r = record {
 }
 
 -- so the bound of dispatching is at most what it costs
-dispatched-le : (s : JobShop) (name : List ℕ) (v : ℕ) → IsJobShop s → (r : Reaches s name v) → dispatching.bound_of s name ≤ makespan s r.plan
+dispatched-le : (s : JobShop) (name : List ℕ) (v : ℕ) → IsJobShop s → (r : Reaches s name v)
+    → dispatching.bound_of s name ≤ makespan s r.plan
 dispatched-le s name v shop r =
-    dispatched_bounds.bounded s name (makespan s r.plan) shop (keeps_reaches s r.plan name shop r.feasible r.order (keeps s name v r))
+    dispatched_bounds.bounded s name (makespan s r.plan) shop
+    (keeps_reaches s r.plan name shop r.feasible r.order (keeps s name v r))
 
 -- what a plan makes of an operation that is left
 record IsWorked (s : JobShop) (plan : List (List ℕ)) (x : Task) (v : Visit) : Type 0 where
@@ -59,7 +64,8 @@ steps_of s name = map length (state_of s name).starts
 abbrev task_in : JobShop → List ℕ → Visit → Task
 task_in s name v = task_of s (steps_of s name) (state_of s name).jobs (state_of s name).machines v
 
-worked : (s : JobShop) (name : List ℕ) (v m : ℕ) (x : Visit) → IsJobShop s → (r : Reaches s name v) → IsVisit s m x → is_left (steps_of s name) x ≡ true → IsWorked s r.plan (task_in s name x) x
+worked : (s : JobShop) (name : List ℕ) (v m : ℕ) (x : Visit) → IsJobShop s → (r : Reaches s name v) → IsVisit s m x
+    → is_left (steps_of s name) x ≡ true → IsWorked s r.plan (task_in s name x) x
 worked s name v m x shop r is left =
     let st = state_of s name in
     let j = x.job in
@@ -74,7 +80,13 @@ worked s name v m x shop r is left =
     (x.step - k) (omega (arith, length-drop k (row_at s.rows j), row-length s j shop row, is.operation.1, le)) in
     record {
       head = omega (arith, first, ap (start_at r.plan j) (let e : k + (x.step - k) ≡ x.step = omega (arith, le) in e));
-      end = omega (arith, is.time, is.tail, ends_with_tail s r.plan j x.step (drop (x.step + 1) (row_at s.rows j)) shop r.feasible is.operation refl);
+      end = omega (
+        arith,
+        is.time,
+        is.tail,
+        ends_with_tail s r.plan j x.step
+            (drop (x.step + 1) (row_at s.rows j)) shop r.feasible is.operation refl,
+      );
     }
 
 -- those above two thresholds
@@ -110,7 +122,8 @@ fails b not_true =
 
 -- the times of those above are the time above
 times-are : (s : JobShop) (name : List ℕ) (h t : ℕ) (vs : List Visit)
-    → total (λ (w : Visit). w.time) (filter (λ w. above h t (task_in s name w)) vs) ≡ time_above h t (map (task_in s name) vs)
+    → total (λ (w : Visit). w.time) (filter (λ w. above h t (task_in s name w)) vs) ≡ time_above h t
+    (map (task_in s name) vs)
 times-are s name h t [] = refl
 times-are s name h t (w ∷ ws) =
     let p : Visit → Bool = λ x. above h t (task_in s name x) in
@@ -119,15 +132,37 @@ times-are s name h t (w ∷ ws) =
     let rest = times-are s name h t ws in
     elim (case_of h t x) [
       | Within head tail ↦
-          omega (arith, ap (total time) (cond-true (p w) (w ∷ filter p ws) (filter p ws) (above-in h t x head tail)), time_asked-in h t x head tail, rest)
+          omega (
+            arith,
+            ap (total time)
+                (cond-true (p w) (w ∷ filter p ws) (filter p ws) (above-in h t x head tail)),
+            time_asked-in h t x head
+                tail,
+            rest,
+          )
       | Early lt ↦
-          omega (arith, ap (total time) (cond-false (p w) (w ∷ filter p ws) (filter p ws) (fails (p w) (above-early h t x lt))), time_asked-early h t x lt, rest)
+          omega (
+            arith,
+            ap (total time)
+                (cond-false (p w) (w ∷ filter p ws) (filter p ws)
+                (fails (p w) (above-early h t x lt))),
+            time_asked-early h t x lt,
+            rest,
+          )
       | Short head lt ↦
-          omega (arith, ap (total time) (cond-false (p w) (w ∷ filter p ws) (filter p ws) (fails (p w) (above-short h t x lt))), time_asked-short h t x head lt, rest)
+          omega (
+            arith,
+            ap (total time)
+                (cond-false (p w) (w ∷ filter p ws) (filter p ws)
+                (fails (p w) (above-short h t x lt))),
+            time_asked-short h t x head lt,
+            rest,
+          )
     ]
 
 pub contains_map : {X Y : Type 0} (f : X → Y) (xs : List X) (x : X) → Contains xs x → Contains (map f xs) (f x)
-contains_map f xs x there = (there.0, omega (arith, there.1, length-map xs f), get_or-map f xs there.0 x (f x) there.1 ∙ ap f there.2)
+contains_map f xs x there =
+    (there.0, omega (arith, there.1, length-map xs f), get_or-map f xs there.0 x (f x) there.1 ∙ ap f there.2)
 
 -- what one of a mapped list comes from
 pub record IsOf {X Y : Type 0} (f : X → Y) (xs : List X) (y : Y) : Type 0 where
@@ -148,7 +183,8 @@ some_visit : Visit
 some_visit = record { job = 0; step = 0; time = 0; tail = 0 }
 
 -- a plan works the operations of a machine apart
-worked_apart : (s : JobShop) (plan : List (List ℕ)) (m : ℕ) → IsJobShop s → IsFeasible s plan → AllPairs (Apart (λ (w : Visit). start_at plan w.job w.step) (λ (w : Visit). w.time)) (visits s m)
+worked_apart : (s : JobShop) (plan : List (List ℕ)) (m : ℕ) → IsJobShop s → IsFeasible s plan
+    → AllPairs (Apart (λ (w : Visit). start_at plan w.job w.step) (λ (w : Visit). w.time)) (visits s m)
 worked_apart s plan m shop feasible = λ i j d lt inside.
     let v = get_or (visits s m) i d in
     let w = get_or (visits s m) j d in
@@ -166,7 +202,8 @@ worked_apart s plan m shop feasible = λ i j d lt inside.
 
 -- so no thresholds' bound exceeds the makespan
 threshold-le : (s : JobShop) (name : List ℕ) (v m h t : ℕ) → IsJobShop s → (r : Reaches s name v)
-    → threshold_bound (tasks s (steps_of s name) (state_of s name).jobs (state_of s name).machines m) h t ≤ makespan s r.plan
+    → threshold_bound (tasks s (steps_of s name) (state_of s name).jobs (state_of s name).machines m) h t
+    ≤ makespan s r.plan
 threshold-le s name v m h t shop r =
     let plan = r.plan in
     let end = makespan s plan in
@@ -175,17 +212,29 @@ threshold-le s name v m h t shop r =
     let start : Visit → ℕ = λ w. start_at plan w.job w.step in
     let time : Visit → ℕ = λ w. w.time in
     let p : Visit → Bool = λ w. above h t (f w) in
-    let each : All (IsVisit s m) vs = All-filter (is_left (steps_of s name)) (IsVisit s m) (visits s m) (visits_are s m shop) in
-    let lefts : All (λ w. is_left (steps_of s name) w ≡ true) vs = filter_passes (is_left (steps_of s name)) (visits s m) in
+    let each : All (IsVisit s m) vs =
+    All-filter (is_left (steps_of s name)) (IsVisit s m) (visits s m) (visits_are s m shop) in
+    let lefts : All (λ w. is_left (steps_of s name) w ≡ true) vs =
+    filter_passes (is_left (steps_of s name)) (visits s m) in
     let work : (w : Visit) → Contains vs w → IsWorked s plan (f w) w =
-    λ w there. worked s name v m w shop r (All-contains (IsVisit s m) vs w each there) (All-contains (λ x. is_left (steps_of s name) x ≡ true) vs w lefts there) in
+    λ w there. worked s name v m w shop r (All-contains (IsVisit s m) vs w each there)
+    (All-contains (λ x. is_left (steps_of s name) x ≡ true) vs w lefts there) in
     by_parts h t (map f vs) (λ n. n ≤ end) (omega arith)
     (λ head tail x there is low short least.
     let of = comes_from f some_visit vs x there in
     let done = work of.source of.there in
     let most = least x there low short in
     let room : head + tail ≤ end =
-    omega (arith, is, ap (λ (y : Task). y.head) of.same, ap (λ (y : Task). y.tail) of.same, most.1, done.head, done.end) in
+    omega (
+      arith,
+      is,
+      ap (λ (y : Task). y.head) of.same,
+      ap
+          (λ (y : Task). y.tail) of.same,
+      most.1,
+      done.head,
+      done.end,
+    ) in
     let within : All (IsIn start time head (end - tail)) (filter p vs) =
     λ k d lt.
     let w = get_or (filter p vs) k d in
@@ -195,10 +244,18 @@ threshold-le s name v m h t shop r =
     let made = work w inside in
     (omega (arith, more.0, made.head), omega (arith, more.1, made.end)) in
     let apart : AllPairs (Apart start time) (filter p vs) =
-    AllPairs-filter (Apart start time) p vs (AllPairs-filter (Apart start time) (is_left (steps_of s name)) (visits s m) (worked_apart s plan m shop r.feasible)) in
-    omega (arith, packed start time (filter p vs) head (end - tail) (omega (arith, room)) within apart, times-are s name h t vs, room))
+    AllPairs-filter (Apart start time) p vs (AllPairs-filter (Apart start time) (is_left (steps_of s name))
+    (visits s m) (worked_apart s plan m shop r.feasible)) in
+    omega (
+      arith,
+      packed start time (filter p vs) head (end - tail)
+          (omega (arith, room)) within apart,
+      times-are s name h t vs,
+      room,
+    ))
 
-greatest_map-le : {X : Type 0} (f : X → ℕ) (xs : List X) (limit : ℕ) → ((x : X) → f x ≤ limit) → greatest (map f xs) ≤ limit
+greatest_map-le : {X : Type 0} (f : X → ℕ) (xs : List X) (limit : ℕ) → ((x : X) → f x ≤ limit)
+    → greatest (map f xs) ≤ limit
 greatest_map-le f [] limit each = omega arith
 greatest_map-le f (x ∷ xs) limit each = omega (arith, each x, greatest_map-le f xs limit each)
 
@@ -212,7 +269,8 @@ bounded s name v shop r =
     λ m.
     let xs = tasks s steps st.jobs st.machines m in
     greatest_map-le (λ (x : Task). bound_above xs x.head) xs (makespan s r.plan)
-    (λ x. greatest_map-le (λ (y : Task). threshold_bound xs x.head y.tail) xs (makespan s r.plan) (λ y. threshold-le s name v m x.head y.tail shop r)) in
+    (λ x. greatest_map-le (λ (y : Task). threshold_bound xs x.head y.tail) xs (makespan s r.plan)
+    (λ y. threshold-le s name v m x.head y.tail shop r)) in
     omega (
       arith,
       r.cost,
@@ -220,7 +278,8 @@ bounded s name v shop r =
       bound_by-is s st,
       finishes-le s steps st.jobs st.machines,
       machines-le s steps st.jobs st.machines,
-      greatest_each-le (λ m. one_machine_bound (tasks s steps st.jobs st.machines m)) 0 s.machines (makespan s r.plan) (λ m low high. one_machine m),
+      greatest_each-le (λ m. one_machine_bound (tasks s steps st.jobs st.machines m)) 0 s.machines (makespan s r.plan)
+          (λ m low high. one_machine m),
     )
 
 -- No node's bound exceeds the limit of all times.
@@ -228,4 +287,10 @@ pub bound_within : (s : JobShop) (name : List ℕ) → IsJobShop s → IsOrder s
 bound_within s name shop order =
     let on = goes_on s name shop order in
     let reached = order_reaches s name on.0 shop on.1 on.2 in
-    omega (arith, bounded s name (dispatched.order_cost s (name ++ on.0)) shop reached, whole_within s (name ++ on.0) shop on.1 on.2, shop.times)
+    omega (
+      arith,
+      bounded s name (dispatched.order_cost s (name ++ on.0)) shop reached,
+      whole_within s
+          (name ++ on.0) shop on.1 on.2,
+      shop.times,
+    )

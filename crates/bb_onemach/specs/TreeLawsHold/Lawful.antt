@@ -34,27 +34,37 @@ reached s plan feasible =
     }
 
 -- what a node reaches, its own start times cost at most
-pub own_cost-le : (s : JobShop) (name : List ℕ) (v : ℕ) → IsJobShop s → Reaches s name v → makespan s (state_of s name).starts ≤ v
-own_cost-le s name v shop r = omega (arith, r.cost, keeps_cost s r.plan (state_of s name) shop r.feasible (keeps s name v r))
+pub own_cost-le : (s : JobShop) (name : List ℕ) (v : ℕ) → IsJobShop s → Reaches s name v
+    → makespan s (state_of s name).starts ≤ v
+own_cost-le s name v shop r =
+    omega (arith, r.cost, keeps_cost s r.plan (state_of s name) shop r.feasible (keeps s name v r))
 
 distinct_filter : (p : ℕ → Bool) (xs : List ℕ) → IsDistinct nat_eq xs → IsDistinct nat_eq (filter p xs)
 distinct_filter p xs distinct =
     IsDistinct-from_apart nat_eq (filter p xs)
-    (AllPairs-filter (λ x y. nat_eq x y ≡ false) p xs (λ i j d lt inside. apart_from_distinct nat_eq xs i j d distinct lt inside))
+    (AllPairs-filter (λ x y. nat_eq x y ≡ false) p xs
+    (λ i j d lt inside. apart_from_distinct nat_eq xs i j d distinct lt inside))
 
 -- the children are some of those of dispatching
 told_apart : (s : JobShop) (name : List ℕ) → IsJobShop s → IsDistinct nat_eq (active_children s name)
 told_apart s name shop =
     let next = next_in s (state_of s name) in
     let ks = children_of s name in
-    subst (IsDistinct nat_eq) (sym (active-are s name ks refl)) (distinct_filter (competes next (critical next ks)) ks (dispatched.told_apart s name shop))
+    subst (IsDistinct nat_eq) (sym (active-are s name ks refl))
+    (distinct_filter (competes next (critical next ks)) ks (dispatched.told_apart s name shop))
 
 few : (s : JobShop) (name : List ℕ) → length (active_children s name) ≤ length s.rows
 few s name =
     let next = next_in s (state_of s name) in
     let ks = children_of s name in
     let p = competes next (critical next ks) in
-    omega (arith, ap (λ (xs : List ℕ). length xs) (active-are s name ks refl), length-filter_both p (λ i. not (p i)) (λ _. refl) ks, length-children s name)
+    omega (
+      arith,
+      ap (λ (xs : List ℕ). length xs) (active-are s name ks refl),
+      length-filter_both p (λ i. not (p i))
+          (λ _. refl) ks,
+      length-children s name,
+    )
 
 counted : (s : JobShop) → tree_size s < 2 ^ 64 → node_count (tree_of s) ≤ tree_size s
 counted s small = dispatched.few_nodes (tree_of s) (length s.rows) (few s) small

@@ -1,5 +1,6 @@
 -- What one machine works one after another, from one time on and up to another, takes no longer than that.
-use Rattle.std.proofs.Common.{◌≡◌, ℕ, zero, suc, ◌+◌, ◌<◌, ◌≤◌, ◌⊎◌, inl, inr, true, List, [], ◌∷◌, refl, sym, ap, ◌∙◌, length, get_or, arith}
+use Rattle.std.proofs.Common.{◌≡◌, ℕ, zero, suc, ◌+◌, ◌<◌, ◌≤◌, ◌⊎◌, inl, inr, true, List, [], ◌∷◌, refl, sym, ap, ◌∙◌}
+use Rattle.std.proofs.Common.{length, get_or, arith}
 use Rattle.std.specs.Prelude.{nat_le, not, All, AllPairs, filter, sum_by, Bool}
 use Rattle.std.proofs.lemmas.Bool.{cases_Bool, cases_lt, lt-leb, le-leb, false≢true}
 use Rattle.std.proofs.lemmas.List.Elements.{All-filter, filter_passes}
@@ -45,7 +46,8 @@ pub pairs-first : {X : Type 0} (R : X → X → Type 0) (x : X) (xs : List X) �
 pairs-first R x xs pairs = λ k d lt. pairs 0 (suc k) d (omega arith) (omega (arith, lt))
 
 -- those before one of them, and those after it
-pack : {X : Type 0} (start time : X → ℕ) (n : ℕ) (xs : List X) (low high : ℕ) → length xs ≤ n → low ≤ high → All (IsIn start time low high) xs → AllPairs (Apart start time) xs
+pack : {X : Type 0} (start time : X → ℕ) (n : ℕ) (xs : List X) (low high : ℕ) → length xs ≤ n → low ≤ high
+    → All (IsIn start time low high) xs → AllPairs (Apart start time) xs
     → low + sum_by time xs ≤ high
 pack start time n [] low high few le all pairs = omega (arith, le, total-sum_by time [])
 pack start time zero (x ∷ xs) low high few le all pairs = absurd (omega (arith, few))
@@ -58,7 +60,11 @@ pack {X} start time (suc n) (x ∷ xs) low high few le all pairs =
     let size = length-filter_both p q (λ _. refl) xs in
     let before : low + sum_by time (filter p xs) ≤ start x =
     pack start time n (filter p xs) low (start x) (omega (arith, size, few)) here.0
-    (λ k d lt. ((All-filter p (IsIn start time low high) xs rest k d lt).0, le-from_test (start (get_or (filter p xs) k d) + time (get_or (filter p xs) k d)) (start x) (filter_passes p xs k d lt)))
+    (λ k d lt. (
+      (All-filter p (IsIn start time low high) xs rest k d lt).0,
+      le-from_test
+          (start (get_or (filter p xs) k d) + time (get_or (filter p xs) k d)) (start x) (filter_passes p xs k d lt),
+    ))
     (AllPairs-filter (Apart start time) p xs apart) in
     let after : start x + time x + sum_by time (filter q xs) ≤ high =
     pack start time n (filter q xs) (start x + time x) high (omega (arith, size, few)) here.1
@@ -74,5 +80,7 @@ pack {X} start time (suc n) (x ∷ xs) low high few le all pairs =
     (AllPairs-filter (Apart start time) q xs apart) in
     omega (arith, before, after, sum_by-cons time x xs, sum_by-filter_both p q (λ _. refl) time xs)
 
-pub packed : {X : Type 0} (start time : X → ℕ) (xs : List X) (low high : ℕ) → low ≤ high → All (IsIn start time low high) xs → AllPairs (Apart start time) xs → low + total time xs ≤ high
-packed start time xs low high le all pairs = omega (arith, total-sum_by time xs, pack start time (length xs) xs low high (omega arith) le all pairs)
+pub packed : {X : Type 0} (start time : X → ℕ) (xs : List X) (low high : ℕ) → low ≤ high
+    → All (IsIn start time low high) xs → AllPairs (Apart start time) xs → low + total time xs ≤ high
+packed start time xs low high le all pairs =
+    omega (arith, total-sum_by time xs, pack start time (length xs) xs low high (omega arith) le all pairs)
