@@ -84,12 +84,27 @@ starting_cases() {
     count 'to build and be interrupted' "$(stop_start INT 130)"
     count 'to build and lose the terminal' "$(stop_start HUP 129)"
     count 'to build and be told to end' "$(stop_start TERM 143)"
+    count 'to build and be interrupted alone' "$(stop_start INT 130 alone)"
+    count 'to build and be hung up alone' "$(stop_start HUP 129 alone)"
+    count 'to build and be told to end alone' "$(stop_start TERM 143 alone)"
     stand_in "$builds"
     count 'to build' "$(start "$made/bin:$bare_path" 0 built 'built in')"
     count 'to run what was built' "$(start "$bare_path" 0 built '')"
     count 'to ship what was built' "$(cd / && ship)"
     rm -rf "$copy/dist/built-here"
     count 'to run what is shipped' "$(start "$bare_path" 0 built '')"
+    chmod a-x "$copy/dist/program" "$copy/dist/build" "$copy/dist/hints"
+    count 'to run what is shipped by scripts that may not be run' "$(start "$bare_path" 0 built '')"
+    for tool in readlink sha256sum xargs; do
+        count "to start without $tool" "$(start_without "$tool")"
+    done
+    cp "$copy/dist/pq" "$made/alone"
+    count 'the program copied alone' "$([ "$(cd / && "$made/alone")" = built ] || echo 'does not run')"
+    for part in common.sh build hints words; do
+        mv "$copy/dist/$part" "$made/part"
+        count "to start without dist/$part" "$(start "$bare_path" 66 '' "dist/$part is missing: pq has to stand")"
+        mv "$made/part" "$copy/dist/$part"
+    done
     on_machine 'Linux aarch64'
     count 'on a machine that what is shipped is not for' "$(start "$bare_path" 69 '' 'no command rt')"
     on_machine 'Linux x86_64'
@@ -101,17 +116,34 @@ starting_cases() {
     count 'copied alone' "$(start "$bare_path" 66 '' 'dist/program is missing: pq has to stand in its whole')"
 }
 
-# Stops a build by the signal $1, as a terminal does: all of its group. It has to end with the status $2, and leave
-# nothing behind once it has cleaned up, which `pq` itself may not wait for.
+# What is wrong with a start where no folder of the path has the command $1. The folder of all others is made of links.
+start_without() {
+    local tool
+    rm -rf "$made/tools" && mkdir "$made/tools"
+    for tool in bash readlink dirname uname sha256sum xargs sort cut grep find git timeout cat ls; do
+        [ "$tool" = "$1" ] || ln -s "$(command -v "$tool")" "$made/tools/$tool"
+    done
+    (PATH=$made/tools; "$made/tools/bash" "$copy/pq" </dev/null >"$made/out" 2>"$made/err")
+    [ $? = 69 ] || echo 'the status is another'
+    grep -q "no command $1" "$made/err" || cat "$made/err"
+}
+
+# Stops a build by the signal $1, as a terminal does: all of its group; or where $3 is `alone`, `pq` by its own process
+# and nothing else. It has to end with the status $2, and leave nothing behind once it has cleaned up, which `pq` itself
+# may not wait for.
 stop_start() {
     local job status
     set -m
-    PATH=$made/bin:$bare_path TMPDIR=$made/tmp timeout --foreground 60 "$copy/pq" \
-        </dev/null >"$made/out" 2>"$made/err" &
+    if [ "${3-}" = alone ]; then
+        PATH=$made/bin:$bare_path TMPDIR=$made/tmp "$copy/pq" </dev/null >"$made/out" 2>"$made/err" &
+    else
+        PATH=$made/bin:$bare_path TMPDIR=$made/tmp timeout --foreground 60 "$copy/pq" \
+            </dev/null >"$made/out" 2>"$made/err" &
+    fi
     job=$!
     set +m
     sleep 3
-    kill "-$1" -- "-$job"
+    if [ "${3-}" = alone ]; then kill "-$1" "$job"; else kill "-$1" -- "-$job"; fi
     wait "$job"
     status=$?
     [ "$status" = "$2" ] || echo "status $status"
