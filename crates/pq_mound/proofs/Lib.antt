@@ -1,0 +1,8 @@
+-- What each step of the mound keeps of its facts.
+pub mod Lists
+pub mod Sums
+pub mod Mounds
+pub mod Least
+pub mod Counts
+pub mod Events
+pub mod Links

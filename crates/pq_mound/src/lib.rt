@@ -1,0 +1,11 @@
+//! The mound: what its nodes count as, and the facts that hold between any two of its steps.
+#![tactic(auto)]
+
+mod laws;
+mod nodes;
+
+pub use laws::{
+    cells_change_hands, inserts_keep_the_mound, lists_are_linked, mounds_open,
+    removals_keep_the_mound,
+};
+pub use nodes::{Cell, Node};
