@@ -17,10 +17,6 @@ times-cons k n ns = sum_by-cons (λ (m : ℕ). cond {A = ℕ} (m == k) 1 0) n ns
 pub times-append : (k : ℕ) (xs ys : List ℕ) → times k (xs ++ ys) ≡ times k xs + times k ys
 times-append k xs ys = sum_by-append (λ (m : ℕ). cond {A = ℕ} (m == k) 1 0) xs ys
 
-pub times-here : (k : ℕ) (ns : List ℕ) → times k (k ∷ ns) ≡ 1 + times k ns
-times-here k ns = let one : cond {A = ℕ} (k == k) 1 0 ≡ 1 = ap (λ (b : Bool). cond {A = ℕ} b 1 0) (eq-eqb k k refl) in
-    omega (arith, times-cons k k ns)
-
 -- the sum of f over the numbers below this
 abbrev total : (ℕ → ℕ) → ℕ → ℕ
 total f zero = 0

@@ -18,11 +18,12 @@ use Rattle.pq_mound.specs.Cells.{times, IsDealt}
 use Rattle.pq_mound.specs.Facts.{MoundFacts}
 use Rattle.pq_mound.specs.Laws.{FullWhereNoneIsFree, JoinsKeep, RestsKeep, HeadsAreLeast, EmptyRootsHoldNone, TakesKeep}
 use Rattle.pq_mound.specs.Laws.{SwapsKeep, EndsKeep, NewMoundsKeep, HandsChange}
-use Rattle.pq_mound.proofs.Lists.{split}
-use Rattle.pq_mound.proofs.Sums.{weight, is_cell, numbers_times, set_sum, two_sums, put_sum}
+use Rattle.pq_mound.specs.LawsHold.Sums.{is_cell, numbers_times, times-here}
+use Rattle.pq_mound.proofs.Lists.{split, put_cells}
+use Rattle.pq_mound.proofs.Sums.{weight, set_sum, two_sums, put_sum}
 use Rattle.pq_mound.proofs.Mounds.{IsMound, join, rest, take_head, swap, end}
 use Rattle.pq_mound.proofs.Least.{Holds, by_weights, in_entries, least_head, empty_root, without_sum}
-use Rattle.pq_mound.proofs.Counts.{times-cons, times-here, times-some, dealt_count}
+use Rattle.pq_mound.proofs.Counts.{times-cons, times-some, dealt_count}
 
 module _ {capacity : ℕ} {free held : List ℕ} {t : List Node} {m : List Entry}
     (f : MoundFacts capacity free held t m) where
@@ -95,7 +96,8 @@ event_join capacity free held held' t m i k e list f some within is may own =
     let at : (g : Cell → ℕ) → sum_by g (cells v) ≡ sum_by g (cells (node t i)) + g c =
     (λ g. let old : sum_by g (cells (node t i)) ≡ sum_by g list = ap (λ (u : Node). sum_by g (cells u)) is in
     let whole : sum_by g (front ++ back) ≡ sum_by g list = ap (sum_by g) s.whole in
-    let put = put_sum g front back c in omega arith) in (
+    let one = put_sum g front back c in let same : sum_by g (cells v) ≡ sum_by g (front ++ c ∷ back) = ap (sum_by g)
+    (put_cells front back c) in omega arith) in (
       (let held_some = held_one held held' k own in omega arith),
       facts_out capacity free held' (set t i v) (add e m) (let rooted = f.rooted in omega (arith, length-set t i v))
           (join t i c list (mound_in f) some within is may)

@@ -19,9 +19,10 @@ use Rattle.pq_mound.specs.declared.nodes.Node.{Node}
 use Rattle.pq_mound.specs.declared.nodes.Node.TheVariants.{Resting}
 use Rattle.pq_mound.specs.Nodes.{node, cells, all_cells, entries}
 use Rattle.pq_mound.specs.Order.{value_of, value, bound}
+use Rattle.pq_mound.specs.LawsHold.Sums.{flat_sum, part_sum}
 use Rattle.pq_mound.proofs.Lists.{value_fits, sorted_over}
 use Rattle.pq_mound.proofs.Mounds.{IsMound}
-use Rattle.pq_mound.proofs.Sums.{weight, entries_weigh, all_sum, part_sum}
+use Rattle.pq_mound.proofs.Sums.{weight, entries_weigh}
 
 -- the lists weigh what the multiset weighs, whatever weighs how much
 pub record Holds (t : List Node) (m : List Entry) : Type 0 where
@@ -64,7 +65,12 @@ none_below_root t list f root = let x : ℕ = value_of list in
     let all : All (λ (v : Node). sum_by (weight (below x)) (cells v) ≤ 0) t =
     All-from_get_or (λ (v : Node). sum_by (weight (below x)) (cells v) ≤ 0) t (Resting [])
     (λ i lt. none (node t i) (f.sorted i) (over_root t x i f (ap bound root) (ap value root) (value_fits list))) in
-    omega (arith, all_sum (weight (below x)) t, sum_by-le (λ (v : Node). sum_by (weight (below x)) (cells v)) 0 t all)
+    omega (
+      arith,
+      flat_sum (weight (below x)) cells t,
+      sum_by-le
+          (λ (v : Node). sum_by (weight (below x)) (cells v)) 0 t all,
+    )
 
 root_weighs : (w : ℕ → ℕ) (t : List Node) (c : Cell) (list : List Cell) → 1 < length t → node t 1 ≡ Resting (c ∷ list)
     → w (raw_of c.entry) ≤ sum_by (weight w) (all_cells t)

@@ -1,10 +1,10 @@
 -- Lists in the words of their cells.
 use Rattle.std.proofs.Common.{◌≡◌, ◌≢◌, ℕ, ◌+◌, ◌<◌, ◌≤◌, Bool, cond, List, [], ◌∷◌, ◌++◌, length, set, refl, sym}
-use Rattle.std.proofs.Common.{⊎_elim, ap, ◌∙◌, subst, arith}
+use Rattle.std.proofs.Common.{ap, ◌∙◌, subst, arith}
 use Rattle.std.specs.Prelude.{All, ◌==◌, nat_lt}
 use native.Mathlib.Decide.{ℕ_discrete}
 use mathlib.Core.Logic.{dite}
-use Rattle.std.proofs.lemmas.Bool.{eq-eqb, cases_lt}
+use Rattle.std.proofs.lemmas.Bool.{eq-eqb}
 use Rattle.std.proofs.lemmas.Bool.Decides.{nat_tests}
 use Rattle.std.proofs.lemmas.List.{map-append, get_or-set_same, get_or-set_other, length-set}
 use Rattle.std.proofs.lemmas.List.Elements.{All-nil, All-cons, All-head, All-tail}
@@ -14,16 +14,16 @@ use Rattle.pq_mound.specs.declared.nodes.Cell.{Cell}
 use Rattle.pq_mound.specs.declared.nodes.Node.{Node}
 use Rattle.pq_mound.specs.declared.nodes.Node.TheVariants.{Resting, Hole, Joining}
 use Rattle.pq_mound.specs.Nodes.{node, cells, all_cells, entries, numbers, cell}
-use Rattle.pq_mound.specs.Order.{before, behind, joined}
+use Rattle.pq_mound.specs.Order.{before, behind, put, joined}
 use Rattle.pq_mound.specs.Cells.{times}
 use Rattle.pq_mound.specs.Chains.{first_or, IsChain, IsLinked, AreLinked}
-use Rattle.pq_mound.specs.Laws.{IsStoreTo, OwnStoresLink, JoinsLink, FrontsRest, StoresRest, TakesLink, SwapsLink}
+use Rattle.pq_mound.specs.Laws.{IsStoreTo, OwnStoresLink, JoinsLink, StoresRest, TakesLink, SwapsLink}
 use Rattle.pq_mound.specs.Laws.{EndsLink}
 use Rattle.pq_mound.specs.Laws.{OtherStoresLeaveChains}
-use Rattle.pq_mound.proofs.Lists.{split}
-use Rattle.pq_mound.proofs.Mounds.{past_end}
-use Rattle.pq_mound.proofs.Sums.{is_cell, numbers_times, set_sum, part_sum}
-use Rattle.pq_mound.proofs.Counts.{times-cons, times-append, times-here}
+use Rattle.pq_mound.specs.LawsHold.Sums.{is_cell, numbers_times, times-here, in_list}
+use Rattle.pq_mound.proofs.Lists.{split, put_cells}
+use Rattle.pq_mound.proofs.Sums.{set_sum}
+use Rattle.pq_mound.proofs.Counts.{times-cons, times-append}
 
 -- a number that does not stand first
 not_first : (k n : ℕ) (ns : List ℕ) → times k (n ∷ ns) ≡ 0 → (n ≢ k) × (times k ns ≡ 0)
@@ -61,16 +61,7 @@ chain_end : (nexts nexts' : ℕ → ℕ) (ns : List ℕ) (n x y : ℕ) → IsCha
 chain_end nexts nexts' ns n x y chain none same at = let r = chain_parts nexts ns (n ∷ []) x chain in
     chain_append nexts' ns (n ∷ []) y (chain_other nexts nexts' n (n + 1) ns r.0 none same) (at, tt)
 
--- how often a cell is in one list, and in another
-in_list : (k : ℕ) (t : List Node) (i : ℕ) → times k (numbers (cells (node t i))) ≤ times k (numbers (all_cells t))
-in_list k t i = ⊎_elim
-    (λ lt. let part = part_sum (is_cell k) t i lt in
-    omega (arith, numbers_times k (cells (node t i)), numbers_times k (all_cells t)))
-    (λ past. let none : times k (numbers (cells (node t i))) ≡ 0 = ap
-    (λ (v : Node). times k (numbers (cells v))) (past_end t i past) in
-    omega arith)
-    (cases_lt i (length t))
-
+-- how often a cell is in two lists
 in_two : (k : ℕ) (t : List Node) (i j : ℕ) → i ≢ j → i < length t
     → times k (numbers (cells (node t i))) + times k (numbers (cells (node t j))) ≤ times k (numbers (all_cells t))
 in_two k t i j ne within = let t' : List Node = set t i (Resting []) in
@@ -128,6 +119,12 @@ own_stores entries entries' nexts nexts' t k f none same_entries same_nexts = re
       stored_other entries entries' k (cells (node t i)) (omega arith) same_entries (f.stored i);
 }
 
+put_linked : (nexts : ℕ → ℕ) (front back : List Cell) (c : Cell)
+    → IsChain nexts (numbers front) (first_or (numbers back) 0)
+    → IsChain nexts (numbers (c ∷ back)) 0 → IsLinked nexts (put front c back)
+put_linked nexts [] back c before behind = behind
+put_linked nexts (d ∷ front) back c before behind = (before, behind)
+
 pub joins_link : JoinsLink
 joins_link entries nexts t i k e list f within is entry next =
     let front : List Cell = before e list in let back : List Cell = behind e list in let s = split e list in
@@ -136,14 +133,10 @@ joins_link entries nexts t i k e list f within is entry next =
     let chain : IsChain nexts (numbers list) 0 = subst (IsLinked nexts) is (f.linked i) in
     let parts = chain_parts nexts (numbers front) (numbers back) 0 (subst
     (λ (z : List ℕ). IsChain nexts z 0) whole chain) in
-    linked_set entries nexts t i (joined list (cell k e)) f within (parts.0, (next, parts.1))
-    (All-put P front back (cell k e) entry
-    (subst (All P) (sym s.whole) (subst (λ (v : Node). All P (cells v)) is (f.stored i))))
-
-pub fronts_rest : FrontsRest
-fronts_rest entries nexts t i c back f within is = linked_set entries nexts t i (Resting (c ∷ back)) f within
-    (let chain : IsLinked nexts (Joining [] c back) = subst (IsLinked nexts) is (f.linked i) in chain.1)
-    (subst (λ (v : Node). All (λ (d : Cell). entries d.number ≡ raw_of d.entry) (cells v)) is (f.stored i))
+    linked_set entries nexts t i (joined list (cell k e)) f within
+    (put_linked nexts front back (cell k e) parts.0 (next, parts.1))
+    (subst (All P) (sym (put_cells front back (cell k e))) (All-put P front back (cell k e) entry
+    (subst (All P) (sym s.whole) (subst (λ (v : Node). All P (cells v)) is (f.stored i)))))
 
 pub takes_link : TakesLink
 takes_link entries nexts t c list f within is = let P : Cell → Type 0 = λ d. entries d.number ≡ raw_of d.entry in

@@ -11,8 +11,8 @@ use Rattle.pq_model.specs.Multiset.{IsRising}
 use Rattle.pq_mound.specs.declared.nodes.Cell.{Cell}
 use Rattle.pq_mound.specs.declared.nodes.Node.{Node}
 use Rattle.pq_mound.specs.declared.nodes.Node.TheVariants.{Resting, Hole, Joining}
-use Rattle.pq_mound.specs.Nodes.{entries}
-use Rattle.pq_mound.specs.Order.{value_of, value, bound, before, behind}
+use Rattle.pq_mound.specs.Nodes.{cells, entries}
+use Rattle.pq_mound.specs.Order.{value_of, value, bound, before, behind, put}
 
 pub value_fits : (cs : List Cell) → value_of cs ≤ raw_limit
 value_fits [] = omega arith
@@ -58,6 +58,15 @@ split e (c ∷ cs) = let P : Cell → Type 0 = λ d. raw_of d.entry ≤ raw_of e
     })
     (λ t. let le : raw_of e ≤ raw_of c.entry = grind (arith, nat_tests) in
     record { whole = refl; low = All-nil P; high = le })
+
+-- a cell between two parts of a list
+pub put_cells : (front back : List Cell) (c : Cell) → cells (put front c back) ≡ front ++ c ∷ back
+put_cells [] back c = refl
+put_cells (d ∷ front) back c = refl
+
+pub put_bound : (front back : List Cell) (c : Cell) → bound (put front c back) ≡ value_of (front ++ c ∷ back)
+put_bound [] back c = refl
+put_bound (d ∷ front) back c = refl
 
 -- a cell is put at its place
 put_all : (P : Entry → Type 0) (front back : List Cell) (c : Cell) → P c.entry → All P (entries (front ++ back))

@@ -1,6 +1,6 @@
 -- What each step keeps of the mound's order.
-use Rattle.std.proofs.Common.{◌≡◌, ℕ, ◌+◌, ◌*◌, ◌/◌, ◌<◌, ◌≤◌, zero, suc, List, [], ◌∷◌, ◌++◌, length, set, ⊎_elim}
-use Rattle.std.proofs.Common.{refl, sym, ap, ◌∙◌}
+use Rattle.std.proofs.Common.{◌≡◌, ℕ, ◌+◌, ◌*◌, ◌/◌, ◌<◌, ◌≤◌, List, [], ◌∷◌, ◌++◌, length, set, ⊎_elim}
+use Rattle.std.proofs.Common.{sym, ap, ◌∙◌}
 use Rattle.std.proofs.Common.{subst, arith}
 use Rattle.std.proofs.lemmas.Bool.{cases_lt}
 use Rattle.std.proofs.lemmas.List.{length-set, get_or-set_same, get_or-set_other}
@@ -15,7 +15,8 @@ use Rattle.pq_mound.specs.declared.nodes.Node.{Node}
 use Rattle.pq_mound.specs.declared.nodes.Node.TheVariants.{Resting, Hole}
 use Rattle.pq_mound.specs.Nodes.{node, cells, entries}
 use Rattle.pq_mound.specs.Order.{value_of, value, bound, IsOrdered, MayJoin, before, behind, joined}
-use Rattle.pq_mound.proofs.Lists.{value_fits, bound_value, split, rising_put, value_put}
+use Rattle.pq_mound.specs.LawsHold.Sums.{past_end}
+use Rattle.pq_mound.proofs.Lists.{value_fits, bound_value, split, put_cells, put_bound, rising_put, value_put}
 
 abbrev bounds : List Node → ℕ → ℕ
 bounds t i = bound (node t i)
@@ -56,16 +57,20 @@ join t h c list f some within is may =
     let back : List Cell = behind c.entry list in
     let rising : IsRising (entries (front ++ back)) = subst (λ (z : List Cell). IsRising (entries z)) (sym s.whole)
     (subst IsSorted is (f.sorted h)) in
-    let put = value_put front back c s.low s.high in let least = put.0 in
+    let least = value_put front back c s.low s.high in let less = least.0 in
+    let whole = put_cells front back c in
+    let new : value (joined list c) ≡ value_of (front ++ c ∷ back) = ap value_of whole in
+    let bounded : bound (joined list c) ≡ value_of (front ++ c ∷ back) = put_bound front back c in
     let old : value_of (front ++ back) ≡ value_of list = ap value_of s.whole in
     let b : bound (node t h) ≡ value_of list = ap bound is in let v : value (node t h) ≡ value_of list = ap value is in
-    one_list t h (joined list c) f some within (rising_put front back c rising s.low s.high)
+    one_list t h (joined list c) f some within
+    (subst (λ (z : List Cell). IsRising (entries z)) (sym whole) (rising_put front back c rising s.low s.high))
     (λ a up. let le = f.ordered.order a h up in let lt = above_lt a h up in let low = up.positive in
     ⊎_elim (λ e. ⊎_elim (λ q. omega arith) (λ q. ⊎_elim (λ r. absurd (omega arith))
-    (λ r. let less = bound_value (node t (h / 2)) in
+    (λ r. let under = bound_value (node t (h / 2)) in
     let most : bounds t a ≤ raw_of c.entry = under_parent (bounds t) (values t) (raw_of c.entry) h a f.ordered
     (omega arith) r up in
-    omega arith) q) may) (λ e. omega arith) put.1)
+    omega arith) q) may) (λ e. omega arith) least.1)
     (λ i up. let le = f.ordered.order h i up in omega arith)
 
 -- a list, or the same under another name, is written over itself
@@ -107,12 +112,6 @@ swap t h c d lower upper f some within child pair at_h at_c le may =
           (ap value w.at_second ∙ sym sh) (omega arith)
           (over_bound (bounds t) (values t) (bounds t c) d f.ordered (omega arith) (omega arith));
     }
-
--- what is past the last node is empty
-pub past_end : (t : List Node) (i : ℕ) → length t ≤ i → node t i ≡ Resting []
-past_end [] i past = refl
-past_end (v ∷ t) zero past = absurd (omega arith)
-past_end (v ∷ t) (suc i) past = past_end t i (omega arith)
 
 -- the hole ends above children that are not below its list
 pub end : (t : List Node) (h : ℕ) (list : List Cell) → IsMound t → 1 ≤ h → h < length t → node t h ≡ Hole list

@@ -91,18 +91,12 @@ OwnStoresLink = (entries entries' nexts nexts' : ℕ → ℕ) (nodes : List Node
     → IsStoreTo k entries entries' → IsStoreTo k nexts nexts' → AreLinked entries' nexts' nodes
 
 -- A cell that has its entry in its entry word, and leads to the first cell of a list that is not below the entry, may
--- join the list
+-- join the list. In front of it no word of another cell is stored for that
 abbrev pub JoinsLink : Type 0
 JoinsLink = (entries nexts : ℕ → ℕ) (nodes : List Node) (i k : ℕ) (e : Entry) (list : List Cell)
     → AreLinked entries nexts nodes → i < length nodes → node nodes i ≡ Resting list
     → entries k ≡ raw_of e → nexts k ≡ first_or (numbers (behind e list)) 0
     → AreLinked entries nexts (set nodes i (joined list (cell k e)))
-
--- A cell that is joining in front is linked once the list's word names it. No word of a cell is stored for that
-abbrev pub FrontsRest : Type 0
-FrontsRest = (entries nexts : ℕ → ℕ) (nodes : List Node) (i : ℕ) (c : Cell) (back : List Cell)
-    → AreLinked entries nexts nodes → i < length nodes → node nodes i ≡ Joining [] c back
-    → AreLinked entries nexts (set nodes i (Resting (c ∷ back)))
 
 -- A cell that is joining behind another is linked by one store, to the next word of that one
 abbrev pub StoresRest : Type 0

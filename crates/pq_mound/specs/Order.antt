@@ -42,6 +42,11 @@ abbrev pub behind : Entry → List Cell → List Cell
 behind e [] = []
 behind e (c ∷ cs) = if nat_lt (raw_of c.entry) (raw_of e) then behind e cs else c ∷ cs
 
+-- A cell between these. In front of all others it is linked at once, and the list is at rest
+abbrev pub put : List Cell → Cell → List Cell → Node
+put [] c behind = Resting (c ∷ behind)
+put (d ∷ before) c behind = Joining (d ∷ before) c behind
+
 -- a list at rest, once the insert of this cell's entry has its place
 abbrev pub joined : List Cell → Cell → Node
-joined list c = Joining (before c.entry list) c (behind c.entry list)
+joined list c = put (before c.entry list) c (behind c.entry list)

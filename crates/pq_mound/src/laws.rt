@@ -2,7 +2,7 @@
 ghost use Rattle.pq_mound.specs.Laws.{FullWhereNoneIsFree, JoinsKeep, RestsKeep};
 ghost use Rattle.pq_mound.specs.Laws.{HeadsAreLeast, EmptyRootsHoldNone, TakesKeep, SwapsKeep, EndsKeep};
 ghost use Rattle.pq_mound.specs.Laws.{NewMoundsKeep, HandsChange};
-ghost use Rattle.pq_mound.specs.Laws.{OwnStoresLink, JoinsLink, FrontsRest, StoresRest};
+ghost use Rattle.pq_mound.specs.Laws.{OwnStoresLink, JoinsLink, StoresRest};
 ghost use Rattle.pq_mound.specs.Laws.{TakesLink, SwapsLink, EndsLink, OtherStoresLeaveChains};
 
 /// Law: the steps of an insert keep the facts of the mound. Where it ends there is room for its entry, and where it
@@ -37,7 +37,6 @@ pub fn cells_change_hands()
 pub fn lists_are_linked()
     ensures own { OwnStoresLink }
     ensures join { JoinsLink }
-    ensures front { FrontsRest }
     ensures store { StoresRest }
     ensures take { TakesLink }
     ensures swap { SwapsLink }

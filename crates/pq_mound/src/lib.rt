@@ -3,9 +3,13 @@
 
 mod laws;
 mod nodes;
+mod rule;
+mod views;
 
 pub use laws::{
     cells_change_hands, inserts_keep_the_mound, lists_are_linked, mounds_open,
     removals_keep_the_mound,
 };
 pub use nodes::{Cell, Node};
+pub use rule::MoundRule;
+pub use views::{MoundPart, OwnCell};

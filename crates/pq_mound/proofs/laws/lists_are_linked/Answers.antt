@@ -1,5 +1,5 @@
 -- Each clause is one of the events.
-use Rattle.pq_mound.proofs.Links.{own_stores, joins_link, fronts_rest, stores_rest, takes_link, swaps_link, ends_link}
+use Rattle.pq_mound.proofs.Links.{own_stores, joins_link, stores_rest, takes_link, swaps_link, ends_link}
 use Rattle.pq_mound.proofs.Links.{chain_other}
 use Rattle.pq_mound.proofs.laws.lists_are_linked.Goals as goal
 
@@ -8,9 +8,6 @@ returns-clause-own c = own_stores
 
 pub returns-clause-join : goal.returns-clause-join
 returns-clause-join c = joins_link
-
-pub returns-clause-front : goal.returns-clause-front
-returns-clause-front c = fronts_rest
 
 pub returns-clause-store : goal.returns-clause-store
 returns-clause-store c = stores_rest
