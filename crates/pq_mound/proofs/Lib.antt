@@ -6,3 +6,5 @@ pub mod Least
 pub mod Counts
 pub mod Events
 pub mod Links
+pub mod FreeCells
+pub mod Moves

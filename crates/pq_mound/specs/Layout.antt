@@ -29,6 +29,10 @@ node_count capacity = 2 ^ depth_of capacity
 abbrev pub cell_base : ℕ → ℕ
 cell_base capacity = node_base + node_words * node_count capacity
 
+-- for no capacity do they begin behind this
+abbrev pub max_base : ℕ
+max_base = 2 ^ 24
+
 abbrev pub entry_word : ℕ → ℕ → ℕ
 entry_word capacity k = cell_base capacity + 2 * k
 

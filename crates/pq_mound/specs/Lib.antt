@@ -12,3 +12,6 @@ pub mod Batches
 pub mod Ties
 pub mod Rules
 pub mod LawsHold
+pub mod Tables
+pub mod Steps
+pub mod Passes

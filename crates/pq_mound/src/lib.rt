@@ -1,8 +1,12 @@
 //! The mound: what its nodes count as, and the facts that hold between any two of its steps.
 #![tactic(auto)]
 
+mod accesses;
 mod laws;
+mod layout;
+mod locks;
 mod nodes;
+mod plays;
 mod rule;
 mod views;
 

@@ -6,7 +6,7 @@ ghost use Rattle.pq_mound.specs.LawsHold.NodeSteps.{mound_node_laws};
 
 use crate::{MoundPart, Node};
 use pq_nodes::NodeRule;
-use pq_seats::SeatRule;
+use pq_seats::{SeatPass, SeatRule, Shared};
 
 /// The rule of the mound's table: which words are locks, and what ties words, views and multiset together between any
 /// two steps of any seats.
@@ -27,3 +27,9 @@ impl NodeRule for MoundRule {
 
     ghost node_laws = { mound_node_laws };
 }
+
+/// A seat at the table of a mound.
+pub(crate) type TablePass = SeatPass<MoundRule>;
+
+/// The table of a mound.
+pub(crate) type MoundTable = Shared<MoundRule>;
