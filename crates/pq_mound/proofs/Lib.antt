@@ -8,3 +8,4 @@ pub mod Events
 pub mod Links
 pub mod FreeCells
 pub mod Moves
+pub mod Picking

@@ -2,6 +2,7 @@
 #![tactic(auto)]
 
 mod accesses;
+mod cells;
 mod laws;
 mod layout;
 mod locks;
