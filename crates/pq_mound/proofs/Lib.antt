@@ -9,3 +9,4 @@ pub mod Links
 pub mod FreeCells
 pub mod Moves
 pub mod Picking
+pub mod CellStores

@@ -1,8 +1,9 @@
 -- The mound's own steps are allowed.
-use Rattle.std.proofs.Common.{◌≡◌, ◌≢◌, ℕ, ◌+◌, List, ◌∷◌, Some, None, inl, refl, sym, ap, ◌∙◌, arith}
+use Rattle.std.proofs.Common.{◌≡◌, ◌≢◌, ℕ, ◌+◌, ◌<◌, List, ◌∷◌, Some, None, inl, refl, sym, ap, ◌∙◌, arith}
 use Rattle.std.specs.Prelude.{Contains}
 use mathlib.Core.Option.{none}
 use Rattle.atomic_table.specs.Table.{Me, step, keeps, Allows}
+use Rattle.pq_words.specs.Limits.{raw_limit}
 use Rattle.pq_seats.specs.declared.views.Limits.{Limits}
 use Rattle.pq_seats.specs.declared.views.Post.{Post}
 use Rattle.pq_seats.specs.declared.views.View.{View}
@@ -13,18 +14,25 @@ use Rattle.pq_seats.proofs.Owning.{own_stays}
 use Rattle.pq_mound.specs.declared.views.MoundPart.{MoundPart}
 use Rattle.pq_mound.specs.declared.views.OwnCell.{OwnCell}
 use Rattle.pq_mound.specs.Chains.{first_or}
-use Rattle.pq_mound.specs.Layout.{cells_lock, free_word, count_word, next_word}
+use Rattle.pq_mound.specs.Layout.{cells_lock, free_word, count_word, entry_word, next_word}
 use Rattle.pq_mound.specs.Ties.{entries_in}
 use Rattle.pq_mound.specs.Rules.{mound_rule}
 use Rattle.pq_mound.specs.Steps as steps
 use Rattle.pq_mound.specs.LawsHold.{mound_laws}
-use Rattle.pq_mound.specs.LawsHold.Locks.{low_is_no_lock}
+use Rattle.pq_mound.specs.LawsHold.Locks.{low_is_no_lock, cell_is_no_lock}
 use Rattle.pq_mound.proofs.FreeCells.{count_is, first_is, first_low, next_is, stores_count, takes_off, gives}
+use Rattle.pq_mound.proofs.CellStores.{stores_next, stores_entry}
 
 module _ (k : Limits) (slots id : ℕ) (me : Me (Unit {0}) (View MoundPart)) where
   -- a view with this post, beside what the seat has besides
   abbrev with_part : View MoundPart → Post MoundPart → Me (Unit {0}) (View MoundPart)
   with_part v p = (with_post v p, me.1)
+
+  same_words : (v : View MoundPart) (o q : OwnCell) (entry next : OwnCell → ℕ) → Some o ≡ Some q
+      → with_part v (steps.keeping v.post o.number (entry o) (next o))
+      ≡ with_part v (steps.keeping v.post q.number (entry q) (next q))
+  same_words v o q entry next e = let same : o ≡ q = cc in
+      ap (λ (z : OwnCell). with_part v (steps.keeping v.post z.number (entry z) (next z))) same
 
   pub may_look_at_count : Contains me.0.post.locks cells_lock
       → Allows (Holds mound_rule k) slots id me count_word (λ n. n)
@@ -112,3 +120,34 @@ module _ (k : Limits) (slots id : ℕ) (me : Me (Unit {0}) (View MoundPart)) whe
       same_giving : (v : View MoundPart) (o q : OwnCell) → Some o ≡ Some q
           → with_part v (steps.giving v.post o.number) ≡ with_part v (steps.giving v.post q.number)
       same_giving v o q e = let same : o ≡ q = cc in ap (λ (z : OwnCell). with_part v (steps.giving v.post z.number)) same
+
+  -- a store to a word of the cell that the seat holds
+  pub may_store_next : (o : OwnCell) (x : ℕ) → me.0.post.number ≢ 0 → me.0.post.own.held ≡ Some o
+      → Allows (Holds mound_rule k) slots id me (next_word k.capacity o.number) (λ _. x)
+      (λ _. steps.stores_next (step slots (next_word k.capacity o.number) x 0 none) me x)
+  may_store_next o x seated holds s h sized at small = let v = me.0 in
+      let p : Post MoundPart = steps.keeping v.post o.number o.entry x in (
+        with_post v p,
+        keeps,
+        tt,
+        own_stays mound_rule k mound_laws s h id v p at seated
+            (record { number = refl; locks = refl; owed = refl; flight = inl refl }) (next_word k.capacity o.number) x
+            (omega arith) (cell_is_no_lock k.capacity (next_word k.capacity o.number) (omega arith))
+            (stores_next k s h id v at o holds x),
+        (λ q also. same_words v o q (λ z. z.entry) (λ z. x) (sym holds ∙ also)),
+      )
+
+  pub may_store_entry : (o : OwnCell) (x : ℕ) → me.0.post.number ≢ 0 → me.0.post.own.held ≡ Some o → x < raw_limit
+      → Allows (Holds mound_rule k) slots id me (entry_word k.capacity o.number) (λ _. x)
+      (λ _. steps.stores_entry (step slots (entry_word k.capacity o.number) x 0 none) me x)
+  may_store_entry o x seated holds fits s h sized at small = let v = me.0 in
+      let p : Post MoundPart = steps.keeping v.post o.number x o.next in (
+        with_post v p,
+        keeps,
+        tt,
+        own_stays mound_rule k mound_laws s h id v p at seated
+            (record { number = refl; locks = refl; owed = refl; flight = inl refl }) (entry_word k.capacity o.number) x
+            (omega arith) (cell_is_no_lock k.capacity (entry_word k.capacity o.number) (omega arith))
+            (stores_entry k s h id v at o holds x fits),
+        (λ q also. same_words v o q (λ z. x) (λ z. z.next) (sym holds ∙ also)),
+      )

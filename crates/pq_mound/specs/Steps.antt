@@ -22,6 +22,10 @@ taking p number rest entry next =
 abbrev pub giving : Post MoundPart → ℕ → Post MoundPart
 giving p number = record p { own = record p.own { free = number ∷ p.own.free; held = None } }
 
+-- a word of the cell that the seat holds was stored: the cell has these
+abbrev pub keeping : Post MoundPart → ℕ → ℕ → ℕ → Post MoundPart
+keeping p number entry next = record p { own = record p.own { held = Some (own_cell number entry next) } }
+
 module _ (st : Step (Unit {0})) (m : Me (Unit {0}) (View MoundPart)) (found : ℕ)
     (m' : Me (Unit {0}) (View MoundPart)) where
   -- the count is as the view names it, and so is the first free cell, which is one of the cells
@@ -44,3 +48,12 @@ module _ (st : Step (Unit {0})) (m : Me (Unit {0}) (View MoundPart)) (found : �
 
   abbrev pub gives : Type 0
   gives = (o : OwnCell) → m.0.post.own.held ≡ Some o → m' ≡ (with_post m.0 (giving m.0.post o.number), m.1)
+
+  -- the word that leads on from the cell that the seat holds was stored, or its entry word
+  abbrev pub stores_next : Type 0
+  stores_next = (o : OwnCell) → m.0.post.own.held ≡ Some o
+      → m' ≡ (with_post m.0 (keeping m.0.post o.number o.entry st.first), m.1)
+
+  abbrev pub stores_entry : Type 0
+  stores_entry = (o : OwnCell) → m.0.post.own.held ≡ Some o
+      → m' ≡ (with_post m.0 (keeping m.0.post o.number st.first o.next), m.1)

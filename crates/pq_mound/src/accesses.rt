@@ -1,16 +1,20 @@
 //! The loads and stores of the mound, each one step under locks that the seat holds.
 ghost use Rattle.std.specs.Prelude.{◌≡◌, ◌<◌, ◌≤◌, ℕ, List, ◌∷◌, Some, None, Contains};
+ghost use Rattle.pq_words.specs.Entries.{raw_of};
 ghost use Rattle.pq_seats.specs.Passes.{limits_of, view_of, Belongs, IsSamePass};
 ghost use Rattle.pq_seats.specs.Views.{with_post};
 ghost use Rattle.pq_mound.specs.declared.views.OwnCell.{OwnCell};
 ghost use Rattle.pq_mound.specs.Chains.{first_or};
 ghost use Rattle.pq_mound.specs.Layout as layout;
-ghost use Rattle.pq_mound.specs.Steps.{counting, taking, giving};
+ghost use Rattle.pq_mound.specs.Steps.{counting, taking, giving, keeping};
 ghost use Rattle.pq_mound.specs.Tables.{IsMoundTable};
 
-use crate::layout::{COUNT, FREE, next_word};
-use crate::plays::{Give, LookAtCount, LookAtFree, LookAtNext, StoreCount, TakeOff};
+use crate::layout::{COUNT, FREE, entry_word, next_word};
+use crate::plays::{
+    Give, LookAtCount, LookAtFree, LookAtNext, StoreCount, StoreEntry, StoreNext, TakeOff,
+};
 use crate::rule::{MoundTable, TablePass};
+use pq_words::Entry;
 
 /// How many cells are free, by a seat that holds the cells' lock.
 pub(crate) fn look_at_count(table: &MoundTable, pass: &mut TablePass) -> u64
@@ -113,4 +117,40 @@ pub(crate) fn give(table: &MoundTable, pass: &mut TablePass, cell: u32)
         .table
         .shared
         .store::<Give>(&mut pass.seat, FREE as usize, u64::from(cell) + 1);
+}
+
+/// Stores which cell the one that the seat holds leads to: the word that names it, or 0.
+pub(crate) fn store_next(table: &MoundTable, pass: &mut TablePass, base: u32, cell: u32, next: u64)
+    requires table { IsMoundTable table.now }
+    requires own { Belongs table.now pass.old }
+    requires holds { (o : OwnCell) × ((view_of pass.old).post.own.held ≡ Some o) × (o.number ≡ cell) }
+    requires base { (base ≡ layout.cell_base (limits_of table.now).capacity) × (base ≤ layout.max_base) }
+    requires cell { cell < (limits_of table.now).capacity }
+    ensures own { Belongs table.now pass.new }
+    ensures same { IsSamePass pass.old pass.new }
+    ensures view { (o : OwnCell) → (view_of pass.old).post.own.held ≡ Some o → view_of pass.new ≡
+        with_post (view_of pass.old) (keeping (view_of pass.old).post o.number o.entry next) }
+{
+    table
+        .table
+        .shared
+        .store::<StoreNext>(&mut pass.seat, next_word(base, cell) as usize, next);
+}
+
+/// Writes an entry into the cell that the seat holds.
+pub(crate) fn store_entry(table: &MoundTable, pass: &mut TablePass, base: u32, cell: u32, entry: Entry)
+    requires table { IsMoundTable table.now }
+    requires own { Belongs table.now pass.old }
+    requires holds { (o : OwnCell) × ((view_of pass.old).post.own.held ≡ Some o) × (o.number ≡ cell) }
+    requires base { (base ≡ layout.cell_base (limits_of table.now).capacity) × (base ≤ layout.max_base) }
+    requires cell { cell < (limits_of table.now).capacity }
+    ensures own { Belongs table.now pass.new }
+    ensures same { IsSamePass pass.old pass.new }
+    ensures view { (o : OwnCell) → (view_of pass.old).post.own.held ≡ Some o → view_of pass.new ≡
+        with_post (view_of pass.old) (keeping (view_of pass.old).post o.number (raw_of entry) o.next) }
+{
+    table
+        .table
+        .shared
+        .store::<StoreEntry>(&mut pass.seat, entry_word(base, cell) as usize, entry.raw());
 }

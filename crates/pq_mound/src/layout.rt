@@ -20,3 +20,11 @@ pub(crate) fn next_word(base: u32, cell: u32) -> u32
 {
     base + 1 + 2 * cell
 }
+
+/// The entry word of a cell, where the words of the cells begin at this base.
+pub(crate) fn entry_word(base: u32, cell: u32) -> u32
+    requires { (base ≤ layout.max_base) × (cell < max_capacity) }
+    ensures { result ≡ base + 2 * cell }
+{
+    base + 2 * cell
+}

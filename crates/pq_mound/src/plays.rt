@@ -1,6 +1,6 @@
 //! The mound's own steps on its table.
 ghost use Rattle.pq_mound.specs.Steps.{looks_at_count, looks_at_free, stores_count};
-ghost use Rattle.pq_mound.specs.Steps.{looks_at_next, takes_off, gives};
+ghost use Rattle.pq_mound.specs.Steps.{looks_at_next, takes_off, gives, stores_next, stores_entry};
 
 use crate::MoundPart;
 use atomic_table::Play;
@@ -46,4 +46,18 @@ pub(crate) struct Give;
 
 impl Play<(), View<MoundPart>> for Give {
     ghost then = { gives };
+}
+
+/// A store to the word that leads on from the cell that the seat holds.
+pub(crate) struct StoreNext;
+
+impl Play<(), View<MoundPart>> for StoreNext {
+    ghost then = { stores_next };
+}
+
+/// A store to the entry word of the cell that the seat holds.
+pub(crate) struct StoreEntry;
+
+impl Play<(), View<MoundPart>> for StoreEntry {
+    ghost then = { stores_entry };
 }
