@@ -10,3 +10,4 @@ pub mod FreeCells
 pub mod Moves
 pub mod Picking
 pub mod CellStores
+pub mod Draws

@@ -3,6 +3,7 @@
 
 mod accesses;
 mod cells;
+mod insert;
 mod laws;
 mod layout;
 mod locks;

@@ -1,0 +1,203 @@
+-- The draws that change nothing of the mound: Full, Empty and Above.
+use Rattle.std.proofs.Common.{◌≡◌, ◌≢◌, ◌⊎◌, ℕ, zero, suc, ◌+◌, ◌<◌, ◌≤◌, Bool, true, false, cond, eqb, List, [], ◌∷◌, ◌++◌}
+use Rattle.std.proofs.Common.{map, length, get_or, set, min, Some, None, inl, ⊎_elim, refl, sym, ap, ◌∙◌, subst, arith}
+use Rattle.std.proofs.Common.{get_or-set_other}
+use Rattle.std.specs.Prelude.{Contains, Option, IsSomeAnd, slice_index, sum_by, nat_le}
+use Rattle.std.proofs.lemmas.Bool.Decides.{nat_tests}
+use Rattle.std.proofs.lemmas.List.Concat.{length-flat_map}
+use Rattle.std.proofs.lemmas.List.Sums.{sum_by-cons}
+use mathlib.Core.Option.{some, some-injective, some-ne-none}
+use native.Mathlib.Decide.{ℕ_discrete}
+use mathlib.Core.Logic.{dite}
+use lib.ListN.{get_elem?}
+use Rattle.pq_words.specs.declared.entries.Entry.{Entry}
+use Rattle.pq_model.specs.declared.marks.Act.{Act}
+use Rattle.pq_model.specs.declared.marks.Act.TheVariants.{Insert, Remove, RemoveBelow}
+use Rattle.pq_model.specs.declared.marks.Reply.{Reply}
+use Rattle.pq_model.specs.declared.marks.Reply.TheVariants as replies
+use Rattle.pq_model.specs.History.{IsStep, after, left}
+use Rattle.pq_seats.specs.declared.views.Limits.{Limits}
+use Rattle.pq_seats.specs.declared.views.Post.{Post}
+use Rattle.pq_seats.specs.declared.views.View.{View}
+use Rattle.pq_seats.specs.Views.{post_of}
+use Rattle.pq_seats.specs.Letters.{owed_count, letter_count}
+use Rattle.pq_seats.specs.Batches.{Batch}
+use Rattle.pq_seats.specs.Posts.{placed_post}
+use Rattle.pq_seats.specs.Rules.{Table, Holds}
+use Rattle.pq_seats.specs.Allowed.{helps, Places, MayDraw}
+use Rattle.pq_seats.proofs.Lists.{not_in}
+use Rattle.pq_seats.proofs.Keeps.{number_low}
+use Rattle.pq_nodes.proofs.Keeping.{frame_keeps}
+use Rattle.pq_nodes.proofs.Tables.{same_locks, same_words}
+use Rattle.pq_mound.specs.declared.nodes.Cell.{Cell}
+use Rattle.pq_mound.specs.declared.nodes.Node.{Node}
+use Rattle.pq_mound.specs.declared.nodes.Node.TheVariants.{Resting}
+use Rattle.pq_mound.specs.declared.views.MoundPart.{MoundPart}
+use Rattle.pq_mound.specs.declared.views.OwnCell.{OwnCell}
+use Rattle.pq_mound.specs.Nodes.{node}
+use Rattle.pq_mound.specs.Batches.{inserted, after_insert}
+use Rattle.pq_mound.specs.Facts.{MoundFacts}
+use Rattle.pq_mound.specs.Layout.{cells_lock}
+use Rattle.pq_mound.specs.NodeParts.{mound_nodes}
+use Rattle.pq_mound.specs.Ties.{held_by, MoundTied}
+use Rattle.pq_mound.specs.Views.{Guard, held_number}
+use Rattle.pq_mound.specs.Rules.{mound_rule}
+use Rattle.pq_mound.specs.LawsHold.Held.{held_same}
+use Rattle.pq_mound.specs.LawsHold.Steps.{ps, pat, free_on, steps}
+use Rattle.pq_mound.specs.LawsHold.Sums.{map_sum}
+use Rattle.pq_mound.proofs.Events.{event_full, event_least, event_empty}
+
+-- the batch of the own mark alone
+abbrev own_mark : Reply → Batch
+own_mark reply = record { before = []; reply = reply; after = [] }
+
+own_apart : (n m : ℕ) → helps m [] + helps m [] + cond (eqb n m) 1 0 ≤ 1
+own_apart n m = by_test (eqb n m)
+  where
+    by_test : (b : Bool) → helps m [] + helps m [] + cond b 1 0 ≤ 1
+    by_test true = omega arith
+    by_test false = omega arith
+
+-- nobody owes anything
+none_owed : (n : ℕ) (posts : List (Post MoundPart))
+    → ((j : ℕ) (p : Post MoundPart) → get_elem? posts j ≡ some p → p.owed ≡ [])
+    → sum_by (λ (p : Post MoundPart). owed_count n p.owed) posts ≡ 0
+none_owed n [] none_here = refl
+none_owed n (p ∷ posts) none_here =
+    let c = sum_by-cons (λ (q : Post MoundPart). owed_count n q.owed) p posts in
+    let a = ap (owed_count n) (none_here 0 p refl) in
+    let r = none_owed n posts (λ j q at. none_here (suc j) q at) in omega arith
+
+-- a sum is below another where each term is at most the other's, and one is below it
+sum_le : {A : Type 0} (f g : A → ℕ) (l : List A) → ((j : ℕ) (w : A) → get_elem? l j ≡ some w → f w ≤ g w)
+    → sum_by f l ≤ sum_by g l
+sum_le f g [] each = omega arith
+sum_le f g (x ∷ xs) each = let first = each 0 x refl in let rest = sum_le f g xs (λ j w to. each (suc j) w to) in
+    omega (arith, sum_by-cons f x xs, sum_by-cons g x xs)
+
+sum_less : {A : Type 0} (f g : A → ℕ) (l : List A) (i : ℕ) (v : A) → get_elem? l i ≡ some v → f v < g v
+    → ((j : ℕ) (w : A) → get_elem? l j ≡ some w → f w ≤ g w) → sum_by f l < sum_by g l
+sum_less f g [] i v at less each = absurd (some-ne-none v (sym at))
+sum_less {A} f g (x ∷ xs) zero v at less each = let is = some-injective x v at in
+    let first : f x < g x = subst (λ (z : A). f z < g z) (sym is) less in
+    let rest = sum_le f g xs (λ j w to. each (suc j) w to) in
+    omega (arith, sum_by-cons f x xs, sum_by-cons g x xs)
+sum_less f g (x ∷ xs) (suc i) v at less each = let first = each 0 x refl in
+    let rest = sum_less f g xs i v at less (λ j w to. each (suc j) w to) in
+    omega (arith, sum_by-cons f x xs, sum_by-cons g x xs)
+
+-- a seat holds one cell at most
+held_one : (o : Option OwnCell) → length (held_number o) ≤ 1
+held_one None = omega arith
+held_one (Some c) = omega arith
+
+module _ (k : Limits) (s : Table MoundPart) (h : Holds mound_rule k s) (id : ℕ) (v : View MoundPart)
+    (at : get_elem? s.views id ≡ some v) where
+  abbrev qs : List (Post MoundPart)
+  qs = ps k s h id v at
+
+  abbrev t : MoundTied k s.words qs (left h.history)
+  t = h.tied
+
+  abbrev here : get_elem? qs id ≡ some v.post
+  here = pat k s h id v at
+
+  -- fewer cells are held than there are seats, where a seat holds none
+  few_held : v.post.number ≢ 0 → v.post.own.held ≡ None → length (held_by qs) < k.seats
+  few_held seated bare =
+      let f : View MoundPart → ℕ = λ w. length (held_number w.post.own.held) in
+      let g : View MoundPart → ℕ = λ w. length w.lanes in
+      let all : length (held_by qs) ≡ sum_by f s.views =
+          length-flat_map (λ (p : Post MoundPart). held_number p.own.held) qs
+          ∙ map_sum (λ (p : Post MoundPart). length (held_number p.own.held)) post_of s.views in
+      let has_lane : (j : ℕ) (w : View MoundPart) → get_elem? s.views j ≡ some w → w.post.number ≢ 0 → 1 ≤ length w.lanes =
+          (λ j w to some_number. let first = (h.each j w to).first some_number in
+          let long = ap (λ (z : List _). length z) first.2 in omega arith) in
+      let mine : f v ≡ 0 = ap (λ (o : Option OwnCell). length (held_number o)) bare in
+      let lane = has_lane id v at seated in
+      let less = sum_less f g s.views id v at (omega arith) (λ j w to. dite (ℕ_discrete w.post.number 0)
+          (λ e. let none : f w ≡ 0 = ap (λ (p : Post MoundPart). length (held_number p.own.held))
+              ((h.each j w to).empty e) in omega arith)
+          (λ ne. let one = held_one w.post.own.held in let some_lane = has_lane j w to ne in omega arith)) in
+      let lanes = h.lanes in omega arith
+
+  -- A draw that leaves the multiset and the own part as they are
+  quiet : (act : Act) (reply : Reply) (new : ℕ) → 0 < v.post.number
+      → IsStep k.seats k.capacity (left h.history) act reply → left h.history ≡ after (left h.history) act reply
+      → Places mound_rule k id v act (own_mark reply) v.post.own new s h
+  quiet act reply new positive legal same =
+      let p' : Post MoundPart = placed_post v.post (own_mark reply) v.post.own (length h.history) in
+      let a = t.alone id v.post here in let low = number_low mound_rule k s h id v at positive in
+      let owed = none_owed v.post.number qs (λ j q to. (t.alone j q to).owes) in
+      let word = t.unwritten v.post.number positive low.1 in record {
+        legal = (legal, tt);
+        apart = own_apart v.post.number;
+        free = omega arith;
+        waiting = λ x has. ⊎_elim (λ z. absurd (not_in x z)) (λ z. absurd (not_in x z)) has;
+        tied = subst (λ (m : List Entry). MoundTied k (set s.words 0 new) (set qs id p') m) same
+            (steps k s h id v at 0 new (omega arith) p' t.free t.nodes (left h.history) (inl refl) (λ e. omega arith)
+                (λ n lt e. absurd (omega arith)) refl
+                (frame_keeps mound_nodes s.words qs t.nodes t.tree id v.post here (set s.words 0 new) p'
+                    (same_locks s.words 0 new (omega arith)) (same_words s.words 0 new (omega arith)) refl
+                    (λ i has. has) (λ i has. has))
+                (subst (λ (z : List ℕ). MoundFacts k.capacity t.free z t.nodes (left h.history))
+                    (sym (held_same qs id v.post p' here refl)) t.facts)
+                t.linked
+                (free_on k s h id v at 0 new (omega arith) p' (λ e. omega arith) (λ e. omega arith) (λ e. omega arith)
+                    refl refl (λ has. has))
+                (record { quiet = refl; owes = ap (λ (z : List (ℕ × ℕ)). z ++ []) a.owes; holds = a.holds }));
+      }
+
+  -- Full, under the cells' lock, where no cell is free, by a seat that holds none
+  pub places_full : (e : Entry) (new : ℕ) → 0 < v.post.number → Contains v.post.locks cells_lock
+      → v.post.own.free ≡ [] → v.post.own.held ≡ None
+      → Places mound_rule k id v (Insert e) (own_mark replies.Full) v.post.own new s h
+  places_full e new positive locked none bare =
+      let free : t.free ≡ [] = sym (t.cells.named id v.post here locked).0 ∙ none in
+      quiet (Insert e) replies.Full new positive
+          (event_full k.seats k.capacity (held_by qs) t.nodes (left h.history)
+              (subst (λ (z : List ℕ). MoundFacts k.capacity z (held_by qs) t.nodes (left h.history)) free t.facts)
+              (few_held (λ z. omega arith) bare))
+          refl
+
+  -- the root counts as its guard says
+  root_is : (g : Guard) → Contains v.post.own.guards g → g.node ≡ 1 → node t.nodes 1 ≡ g.counted
+  root_is g has is = ap (node t.nodes) (sym is) ∙ (t.tree.guarded.held id v.post g here has).counted
+
+  -- Empty, under the root's lock, where its list is empty
+  pub none_left : (g : Guard) → Contains v.post.own.guards g → g.node ≡ 1 → g.counted ≡ Resting []
+      → left h.history ≡ []
+  none_left g has is empty = event_empty k.capacity t.free (held_by qs) t.nodes (left h.history) t.facts
+      (root_is g has is ∙ empty)
+
+  pub places_empty : (g : Guard) (new : ℕ) → 0 < v.post.number → Contains v.post.own.guards g → g.node ≡ 1
+      → g.counted ≡ Resting [] → Places mound_rule k id v Remove (own_mark replies.Empty) v.post.own new s h
+  places_empty g new positive has is empty = quiet Remove replies.Empty new positive (none_left g has is empty) refl
+
+  pub places_empty_below : (limit : ℕ) (g : Guard) (new : ℕ) → 0 < v.post.number → Contains v.post.own.guards g
+      → g.node ≡ 1 → g.counted ≡ Resting []
+      → Places mound_rule k id v (RemoveBelow limit) (own_mark replies.Empty) v.post.own new s h
+  places_empty_below limit g new positive has is empty =
+      quiet (RemoveBelow limit) replies.Empty new positive (none_left g has is empty) refl
+
+  -- Above, under the root's lock, where its head's key is not below the limit
+  pub places_above : (limit : ℕ) (g : Guard) (c : Cell) (list : List Cell) (new : ℕ) → 0 < v.post.number
+      → Contains v.post.own.guards g → g.node ≡ 1 → g.counted ≡ Resting (c ∷ list) → limit ≤ c.entry.key
+      → Places mound_rule k id v (RemoveBelow limit) (own_mark replies.Above) v.post.own new s h
+  places_above limit g c list new positive has is counted high =
+      quiet (RemoveBelow limit) replies.Above new positive
+          (subst (λ (o : Option Entry). IsSomeAnd o (λ (e : Entry). limit ≤ e.key))
+              (sym (event_least k.capacity t.free (held_by qs) t.nodes (left h.history) c list t.facts
+                  (root_is g has is ∙ counted))) high)
+          refl
+
+module _ (k : Limits) (id : ℕ) (v : View MoundPart) where
+  -- an insert that finds no free cell may answer Full
+  pub may_refuse : (e : Entry) → 0 < v.post.number → Contains v.post.locks cells_lock → v.post.own.free ≡ []
+      → v.post.own.held ≡ None → MayDraw mound_rule k id v (Insert e) 1
+  may_refuse e positive locked none bare = (
+    refl,
+    λ s h at. subst (λ (o : Option OwnCell). Places mound_rule k id v (Insert e) (own_mark (inserted o))
+        (after_insert e o v.post.own) (slice_index s.words 0 + 1) s h) (sym bare)
+        (places_full k s h id v at e (slice_index s.words 0 + 1) positive locked none bare),
+  )
