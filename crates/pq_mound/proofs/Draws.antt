@@ -1,8 +1,9 @@
 -- The draws that change nothing of the mound: Full, Empty and Above.
 use Rattle.std.proofs.Common.{◌≡◌, ◌≢◌, ◌⊎◌, ℕ, zero, suc, ◌+◌, ◌<◌, ◌≤◌, Bool, true, false, cond, eqb, List, [], ◌∷◌, ◌++◌}
-use Rattle.std.proofs.Common.{map, length, get_or, set, min, Some, None, inl, ⊎_elim, refl, sym, ap, ◌∙◌, subst, arith}
-use Rattle.std.proofs.Common.{get_or-set_other}
-use Rattle.std.specs.Prelude.{Contains, Option, IsSomeAnd, slice_index, sum_by, nat_le}
+use Rattle.std.proofs.Common.{map, length, get_or, set, min, Some, None, inl, inr, ⊎_elim, refl, sym, ap, ◌∙◌, subst, arith}
+use Rattle.std.proofs.lemmas.List.{length-set}
+use Rattle.std.proofs.lemmas.List.Elements.{All-head}
+use Rattle.std.specs.Prelude.{All, Contains, Option, IsSomeAnd, slice_index, sum_by, nat_le}
 use Rattle.std.proofs.lemmas.Bool.Decides.{nat_tests}
 use Rattle.std.proofs.lemmas.List.Concat.{length-flat_map}
 use Rattle.std.proofs.lemmas.List.Sums.{sum_by-cons}
@@ -11,10 +12,12 @@ use native.Mathlib.Decide.{ℕ_discrete}
 use mathlib.Core.Logic.{dite}
 use lib.ListN.{get_elem?}
 use Rattle.pq_words.specs.declared.entries.Entry.{Entry}
+use Rattle.pq_words.specs.Entries.{raw_of}
 use Rattle.pq_model.specs.declared.marks.Act.{Act}
 use Rattle.pq_model.specs.declared.marks.Act.TheVariants.{Insert, Remove, RemoveBelow}
 use Rattle.pq_model.specs.declared.marks.Reply.{Reply}
 use Rattle.pq_model.specs.declared.marks.Reply.TheVariants as replies
+use Rattle.pq_model.specs.Multiset.{least, without_least}
 use Rattle.pq_model.specs.History.{IsStep, after, left}
 use Rattle.pq_seats.specs.declared.views.Limits.{Limits}
 use Rattle.pq_seats.specs.declared.views.Post.{Post}
@@ -25,27 +28,37 @@ use Rattle.pq_seats.specs.Batches.{Batch}
 use Rattle.pq_seats.specs.Posts.{placed_post}
 use Rattle.pq_seats.specs.Rules.{Table, Holds}
 use Rattle.pq_seats.specs.Allowed.{helps, Places, MayDraw}
-use Rattle.pq_seats.proofs.Lists.{not_in}
+use Rattle.pq_seats.proofs.Lists.{in_first, not_in}
 use Rattle.pq_seats.proofs.Keeps.{number_low}
-use Rattle.pq_nodes.proofs.Keeping.{frame_keeps}
+use Rattle.pq_nodes.specs.Guards.{IsGuarded}
+use Rattle.pq_nodes.specs.Parts.{kind_of}
+use Rattle.pq_nodes.specs.Facts.{locks_in, words_in, NodeFacts}
+use Rattle.pq_nodes.specs.Views.{guard, nodes_of, IsApart}
+use Rattle.pq_nodes.proofs.GuardLists.{first_cases}
+use Rattle.pq_nodes.proofs.Guarded.{guard_written}
+use Rattle.pq_nodes.proofs.Keeping.{frame_keeps, step_keeps, same_names}
 use Rattle.pq_nodes.proofs.Tables.{same_locks, same_words}
 use Rattle.pq_mound.specs.declared.nodes.Cell.{Cell}
 use Rattle.pq_mound.specs.declared.nodes.Node.{Node}
-use Rattle.pq_mound.specs.declared.nodes.Node.TheVariants.{Resting}
+use Rattle.pq_mound.specs.declared.nodes.Node.TheVariants.{Resting, Hole}
 use Rattle.pq_mound.specs.declared.views.MoundPart.{MoundPart}
 use Rattle.pq_mound.specs.declared.views.OwnCell.{OwnCell}
-use Rattle.pq_mound.specs.Nodes.{node}
-use Rattle.pq_mound.specs.Batches.{inserted, after_insert}
+use Rattle.pq_mound.specs.Nodes.{node, cells, numbers}
+use Rattle.pq_mound.specs.Batches.{inserted, after_insert, first_hole, after_removal}
+use Rattle.pq_mound.specs.Cells.{times}
+use Rattle.pq_mound.specs.Chains.{first_or, IsLinked, AreLinked}
 use Rattle.pq_mound.specs.Facts.{MoundFacts}
 use Rattle.pq_mound.specs.Layout.{cells_lock}
 use Rattle.pq_mound.specs.NodeParts.{mound_nodes}
-use Rattle.pq_mound.specs.Ties.{held_by, MoundTied}
-use Rattle.pq_mound.specs.Views.{Guard, held_number}
+use Rattle.pq_mound.specs.Ties.{entries_in, nexts_in, held_by, MoundTied}
+use Rattle.pq_mound.specs.Views.{Guard, own_cell, held_number}
 use Rattle.pq_mound.specs.Rules.{mound_rule}
-use Rattle.pq_mound.specs.LawsHold.Held.{held_same}
+use Rattle.pq_mound.specs.LawsHold.Held.{held_same, held_times}
 use Rattle.pq_mound.specs.LawsHold.Steps.{ps, pat, free_on, steps}
 use Rattle.pq_mound.specs.LawsHold.Sums.{map_sum}
-use Rattle.pq_mound.proofs.Events.{event_full, event_least, event_empty}
+use Rattle.pq_mound.proofs.Counts.{times-cons}
+use Rattle.pq_mound.proofs.Events.{event_full, event_least, event_empty, event_take}
+use Rattle.pq_mound.proofs.Links.{takes_link}
 
 -- the batch of the own mark alone
 abbrev own_mark : Reply → Batch
@@ -121,12 +134,22 @@ module _ (k : Limits) (s : Table MoundPart) (h : Holds mound_rule k s) (id : ℕ
           (λ ne. let one = held_one w.post.own.held in let some_lane = has_lane j w to ne in omega arith)) in
       let lanes = h.lanes in omega arith
 
-  -- A draw that leaves the multiset and the own part as they are
-  quiet : (act : Act) (reply : Reply) (new : ℕ) → 0 < v.post.number
-      → IsStep k.seats k.capacity (left h.history) act reply → left h.history ≡ after (left h.history) act reply
-      → Places mound_rule k id v act (own_mark reply) v.post.own new s h
-  quiet act reply new positive legal same =
-      let p' : Post MoundPart = placed_post v.post (own_mark reply) v.post.own (length h.history) in
+  -- What a draw of the own mark makes of the post
+  abbrev pub drawn_post : Reply → MoundPart → Post MoundPart
+  drawn_post reply own = placed_post v.post (own_mark reply) own (length h.history)
+
+  -- A draw of the own mark is allowed where its reply is a step and the facts are kept
+  pub placing : (act : Act) (reply : Reply) (new : ℕ) (own : MoundPart) (nodes : List Node) → 0 < v.post.number
+      → own.free ≡ v.post.own.free → own.count ≡ v.post.own.count
+      → IsStep k.seats k.capacity (left h.history) act reply → length nodes ≡ length t.nodes
+      → NodeFacts mound_nodes (set s.words 0 new) (set qs id (drawn_post reply own)) nodes
+      → MoundFacts k.capacity t.free (held_by (set qs id (drawn_post reply own))) nodes (after (left h.history) act reply)
+      → AreLinked (entries_in k.capacity s.words) (nexts_in k.capacity s.words) nodes
+      → ((o : OwnCell) → own.held ≡ Some o
+      → (entries_in k.capacity s.words o.number ≡ o.entry) × (nexts_in k.capacity s.words o.number ≡ o.next))
+      → Places mound_rule k id v act (own_mark reply) own new s h
+  placing act reply new own nodes positive free count legal whole tree facts linked holds =
+      let p' : Post MoundPart = drawn_post reply own in
       let a = t.alone id v.post here in let low = number_low mound_rule k s h id v at positive in
       let owed = none_owed v.post.number qs (λ j q to. (t.alone j q to).owes) in
       let word = t.unwritten v.post.number positive low.1 in record {
@@ -134,19 +157,51 @@ module _ (k : Limits) (s : Table MoundPart) (h : Holds mound_rule k s) (id : ℕ
         apart = own_apart v.post.number;
         free = omega arith;
         waiting = λ x has. ⊎_elim (λ z. absurd (not_in x z)) (λ z. absurd (not_in x z)) has;
-        tied = subst (λ (m : List Entry). MoundTied k (set s.words 0 new) (set qs id p') m) same
-            (steps k s h id v at 0 new (omega arith) p' t.free t.nodes (left h.history) (inl refl) (λ e. omega arith)
-                (λ n lt e. absurd (omega arith)) refl
-                (frame_keeps mound_nodes s.words qs t.nodes t.tree id v.post here (set s.words 0 new) p'
-                    (same_locks s.words 0 new (omega arith)) (same_words s.words 0 new (omega arith)) refl
-                    (λ i has. has) (λ i has. has))
-                (subst (λ (z : List ℕ). MoundFacts k.capacity t.free z t.nodes (left h.history))
-                    (sym (held_same qs id v.post p' here refl)) t.facts)
-                t.linked
-                (free_on k s h id v at 0 new (omega arith) p' (λ e. omega arith) (λ e. omega arith) (λ e. omega arith)
-                    refl refl (λ has. has))
-                (record { quiet = refl; owes = ap (λ (z : List (ℕ × ℕ)). z ++ []) a.owes; holds = a.holds }));
+        tied = steps k s h id v at 0 new (omega arith) p' t.free nodes (after (left h.history) act reply) (inl refl)
+            (λ e. omega arith) (λ n lt e. absurd (omega arith)) whole tree facts linked
+            (free_on k s h id v at 0 new (omega arith) p' (λ e. omega arith) (λ e. omega arith) (λ e. omega arith)
+                free count (λ has. has))
+            (record { quiet = refl; owes = ap (λ (z : List (ℕ × ℕ)). z ++ []) a.owes; holds = holds });
       }
+
+  -- A draw that leaves the multiset and the own part as they are
+  quiet : (act : Act) (reply : Reply) (new : ℕ) → 0 < v.post.number
+      → IsStep k.seats k.capacity (left h.history) act reply → left h.history ≡ after (left h.history) act reply
+      → Places mound_rule k id v act (own_mark reply) v.post.own new s h
+  quiet act reply new positive legal same = let p' : Post MoundPart = drawn_post reply v.post.own in
+      placing act reply new v.post.own t.nodes positive refl refl legal refl
+          (frame_keeps mound_nodes s.words qs t.nodes t.tree id v.post here (set s.words 0 new) p'
+              (same_locks s.words 0 new (omega arith)) (same_words s.words 0 new (omega arith)) refl
+              (λ i has. has) (λ i has. has))
+          (subst (λ (m : List Entry). MoundFacts k.capacity t.free (held_by (set qs id p')) t.nodes m) same
+              (subst (λ (z : List ℕ). MoundFacts k.capacity t.free z t.nodes (left h.history))
+                  (sym (held_same qs id v.post p' here refl)) t.facts))
+          t.linked (t.alone id v.post here).holds
+
+  -- the node of the first guard counts as another behind a draw
+  recounted : (g : Guard) (gs : List Guard) (counted : Node) (new : ℕ) (p' : Post MoundPart)
+      → v.post.own.guards ≡ g ∷ gs → p'.own.guards ≡ guard g.node g.stored counted ∷ gs → p'.locks ≡ v.post.locks
+      → NodeFacts mound_nodes (set s.words 0 new) (set qs id p') (set t.nodes g.node counted)
+  recounted g gs counted new p' guards is locks =
+      let g' : Guard = guard g.node g.stored counted in let ws : List ℕ = set s.words 0 new in
+      let mine = t.tree.names id v.post here in
+      let has_g : Contains v.post.own.guards g = subst (λ (z : List Guard). Contains z g) (sym guards) (in_first g gs) in
+      let apart : IsApart (g ∷ gs) = subst IsApart guards mine.apart in
+      let locks_same : locks_in ws ≡ locks_in s.words = (λ j n. same_locks s.words 0 new (omega arith) n j) in
+      let words_same : words_in ws ≡ words_in s.words = (λ j n. same_words s.words 0 new (omega arith) n j) in
+      step_keeps mound_nodes s.words qs t.nodes t.tree id v.post here ws p' (set t.nodes g.node counted)
+          (subst (λ (z : ℕ → ℕ). IsGuarded (kind_of mound_nodes) z (words_in ws) (set qs id p') (set t.nodes g.node counted))
+              (sym locks_same)
+              (subst (λ (z : ℕ → ℕ). IsGuarded (kind_of mound_nodes) (locks_in s.words) z (set qs id p')
+                  (set t.nodes g.node counted)) (sym words_same)
+                  (guard_written (kind_of mound_nodes) (locks_in s.words) (words_in s.words) (words_in s.words) qs t.nodes id
+                      v.post p' g g' t.tree.guarded here has_g refl
+                      (record { own = (t.tree.guarded.held id v.post g here has_g).stored; others = λ j ne. refl })
+                      (λ z at_z. ⊎_elim (λ e. inl e)
+                          (λ r. inr (r.0, subst (λ (l : List Guard). Contains l z) (sym guards) r.1))
+                          (first_cases g g' gs refl apart z (subst (λ (l : List Guard). Contains l z) is at_z))))))
+          (same_names mound_nodes s.words qs t.nodes t.tree id v.post here p' locks
+              (ap nodes_of is ∙ sym (ap nodes_of guards)))
 
   -- Full, under the cells' lock, where no cell is free, by a seat that holds none
   pub places_full : (e : Entry) (new : ℕ) → 0 < v.post.number → Contains v.post.locks cells_lock
@@ -190,6 +245,43 @@ module _ (k : Limits) (s : Table MoundPart) (h : Holds mound_rule k s) (id : ℕ
               (sym (event_least k.capacity t.free (held_by qs) t.nodes (left h.history) c list t.facts
                   (root_is g has is ∙ counted))) high)
           refl
+
+  -- Got, under the root's lock alone: the head is off the root's list, and the seat holds its cell
+  pub places_got : (act : Act) (g : Guard) (c : Cell) (list : List Cell) (new : ℕ) → 0 < v.post.number
+      → v.post.own.guards ≡ g ∷ [] → g.node ≡ 1 → g.counted ≡ Resting (c ∷ list) → v.post.own.held ≡ None
+      → (least (left h.history) ≡ Some c.entry
+      → IsStep k.seats k.capacity (left h.history) act (replies.Got c.entry)
+      × (without_least (left h.history) ≡ after (left h.history) act (replies.Got c.entry)))
+      → Places mound_rule k id v act (own_mark (replies.Got c.entry)) (after_removal (c ∷ list) v.post.own) new s h
+  places_got act g c list new positive guards root counted bare steps_so =
+      let own : MoundPart = after_removal (c ∷ list) v.post.own in
+      let p' : Post MoundPart = drawn_post (replies.Got c.entry) own in
+      let m : List Entry = left h.history in let cap : ℕ = k.capacity in
+      let has_g : Contains v.post.own.guards g = subst (λ (z : List Guard). Contains z g) (sym guards) (in_first g []) in
+      let is : node t.nodes 1 ≡ Resting (c ∷ list) = root_is g has_g root ∙ counted in
+      let step = steps_so (event_least cap t.free (held_by qs) t.nodes m c list t.facts is) in
+      let nodes : List Node = set t.nodes g.node (Hole list) in
+      let at_root : set t.nodes 1 (Hole list) ≡ nodes = ap (λ (z : ℕ). set t.nodes z (Hole list)) (sym root) in
+      let chain : IsLinked (nexts_in cap s.words) (Resting (c ∷ list)) =
+          subst (IsLinked (nexts_in cap s.words)) is (t.linked.linked 1) in
+      let P : Cell → Type 0 = λ d. entries_in cap s.words d.number ≡ raw_of d.entry in
+      let stored : All P (c ∷ list) = subst (λ (z : Node). All P (cells z)) is (t.linked.stored 1) in
+      placing act (replies.Got c.entry) new own nodes positive refl refl step.0 (length-set t.nodes g.node (Hole list))
+          (recounted g [] (Hole list) new p' guards (ap (first_hole list) guards) refl)
+          (subst (λ (z : List Node). MoundFacts cap t.free (held_by (set qs id p')) z
+              (after m act (replies.Got c.entry))) at_root
+              (subst (λ (z : List Entry). MoundFacts cap t.free (held_by (set qs id p')) (set t.nodes 1 (Hole list)) z)
+                  step.1
+                  (event_take cap t.free (held_by qs) (held_by (set qs id p')) t.nodes m c list t.facts is
+                      (λ n. let sums = held_times n qs id v.post p' here in
+                      let old : times n (held_number v.post.own.held) ≡ times n (held_number None) =
+                          ap (λ (o : Option OwnCell). times n (held_number o)) bare in
+                      omega (arith, times-cons n c.number (held_by qs), times-cons n c.number [])))))
+          (subst (AreLinked (entries_in cap s.words) (nexts_in cap s.words)) at_root
+              (takes_link (entries_in cap s.words) (nexts_in cap s.words) t.nodes c list t.linked t.facts.rooted is))
+          (λ o e. let same : own_cell c.number (raw_of c.entry) (first_or (numbers list) 0) ≡ o = cc in
+              subst (λ (z : OwnCell). (entries_in cap s.words z.number ≡ z.entry) × (nexts_in cap s.words z.number ≡ z.next))
+                  same (All-head P c list stored, chain.0))
 
 module _ (k : Limits) (id : ℕ) (v : View MoundPart) where
   -- an insert that finds no free cell may answer Full
