@@ -1,5 +1,5 @@
 -- The draws that change nothing of the mound: Full, Empty and Above.
-use Rattle.std.proofs.Common.{◌≡◌, ◌≢◌, ◌⊎◌, ℕ, zero, suc, ◌+◌, ◌<◌, ◌≤◌, Bool, true, false, cond, eqb, List, [], ◌∷◌, ◌++◌}
+use Rattle.std.proofs.Common.{◌≡◌, ◌≢◌, ◌⊎◌, ℕ, zero, suc, ◌+◌, ◌/◌, ◌<◌, ◌≤◌, Bool, true, false, cond, eqb, List, [], ◌∷◌, ◌++◌}
 use Rattle.std.proofs.Common.{map, length, get_or, set, min, Some, None, inl, inr, ⊎_elim, refl, sym, ap, ◌∙◌, subst, arith}
 use Rattle.std.proofs.lemmas.List.{length-set}
 use Rattle.std.proofs.lemmas.List.Elements.{All-head}
@@ -28,13 +28,13 @@ use Rattle.pq_seats.specs.Batches.{Batch}
 use Rattle.pq_seats.specs.Posts.{placed_post}
 use Rattle.pq_seats.specs.Rules.{Table, Holds}
 use Rattle.pq_seats.specs.Allowed.{helps, Places, MayDraw}
-use Rattle.pq_seats.proofs.Lists.{in_first, not_in}
+use Rattle.pq_seats.proofs.Lists.{in_first, in_later, not_in}
 use Rattle.pq_seats.proofs.Keeps.{number_low}
 use Rattle.pq_nodes.specs.Guards.{IsGuarded}
 use Rattle.pq_nodes.specs.Parts.{kind_of}
 use Rattle.pq_nodes.specs.Facts.{locks_in, words_in, NodeFacts}
 use Rattle.pq_nodes.specs.Views.{guard, nodes_of, IsApart}
-use Rattle.pq_nodes.proofs.GuardLists.{first_cases}
+use Rattle.pq_nodes.proofs.GuardLists.{first_cases, second_cases}
 use Rattle.pq_nodes.proofs.Guarded.{guard_written}
 use Rattle.pq_nodes.proofs.Keeping.{frame_keeps, step_keeps, same_names}
 use Rattle.pq_nodes.proofs.Tables.{same_locks, same_words}
@@ -43,8 +43,9 @@ use Rattle.pq_mound.specs.declared.nodes.Node.{Node}
 use Rattle.pq_mound.specs.declared.nodes.Node.TheVariants.{Resting, Hole}
 use Rattle.pq_mound.specs.declared.views.MoundPart.{MoundPart}
 use Rattle.pq_mound.specs.declared.views.OwnCell.{OwnCell}
-use Rattle.pq_mound.specs.Nodes.{node, cells, numbers}
-use Rattle.pq_mound.specs.Batches.{inserted, after_insert, first_hole, after_removal}
+use Rattle.pq_mound.specs.Nodes.{node, cells, numbers, cell}
+use Rattle.pq_mound.specs.Order.{value_of, value, MayJoin, behind, joined}
+use Rattle.pq_mound.specs.Batches.{inserted, after_insert, first_hole, after_removal, joining, last_joined}
 use Rattle.pq_mound.specs.Cells.{times}
 use Rattle.pq_mound.specs.Chains.{first_or, IsLinked, AreLinked}
 use Rattle.pq_mound.specs.Facts.{MoundFacts}
@@ -57,8 +58,8 @@ use Rattle.pq_mound.specs.LawsHold.Held.{held_same, held_times}
 use Rattle.pq_mound.specs.LawsHold.Steps.{ps, pat, free_on, steps}
 use Rattle.pq_mound.specs.LawsHold.Sums.{map_sum}
 use Rattle.pq_mound.proofs.Counts.{times-cons}
-use Rattle.pq_mound.proofs.Events.{event_full, event_least, event_empty, event_take}
-use Rattle.pq_mound.proofs.Links.{takes_link}
+use Rattle.pq_mound.proofs.Events.{event_full, event_least, event_empty, event_take, event_join}
+use Rattle.pq_mound.proofs.Links.{takes_link, joins_link}
 
 -- the batch of the own mark alone
 abbrev own_mark : Reply → Batch
@@ -178,15 +179,14 @@ module _ (k : Limits) (s : Table MoundPart) (h : Holds mound_rule k s) (id : ℕ
                   (sym (held_same qs id v.post p' here refl)) t.facts))
           t.linked (t.alone id v.post here).holds
 
-  -- the node of the first guard counts as another behind a draw
-  recounted : (g : Guard) (gs : List Guard) (counted : Node) (new : ℕ) (p' : Post MoundPart)
-      → v.post.own.guards ≡ g ∷ gs → p'.own.guards ≡ guard g.node g.stored counted ∷ gs → p'.locks ≡ v.post.locks
+  -- a guard's node counts as another behind a draw
+  recounted : (g : Guard) (counted : Node) (new : ℕ) (p' : Post MoundPart) → Contains v.post.own.guards g
+      → ((z : Guard) → Contains p'.own.guards z
+      → (guard g.node g.stored counted ≡ z) ⊎ ((z.node ≢ g.node) × Contains v.post.own.guards z))
+      → nodes_of p'.own.guards ≡ nodes_of v.post.own.guards → p'.locks ≡ v.post.locks
       → NodeFacts mound_nodes (set s.words 0 new) (set qs id p') (set t.nodes g.node counted)
-  recounted g gs counted new p' guards is locks =
+  recounted g counted new p' has_g cases same locks =
       let g' : Guard = guard g.node g.stored counted in let ws : List ℕ = set s.words 0 new in
-      let mine = t.tree.names id v.post here in
-      let has_g : Contains v.post.own.guards g = subst (λ (z : List Guard). Contains z g) (sym guards) (in_first g gs) in
-      let apart : IsApart (g ∷ gs) = subst IsApart guards mine.apart in
       let locks_same : locks_in ws ≡ locks_in s.words = (λ j n. same_locks s.words 0 new (omega arith) n j) in
       let words_same : words_in ws ≡ words_in s.words = (λ j n. same_words s.words 0 new (omega arith) n j) in
       step_keeps mound_nodes s.words qs t.nodes t.tree id v.post here ws p' (set t.nodes g.node counted)
@@ -196,12 +196,33 @@ module _ (k : Limits) (s : Table MoundPart) (h : Holds mound_rule k s) (id : ℕ
                   (set t.nodes g.node counted)) (sym words_same)
                   (guard_written (kind_of mound_nodes) (locks_in s.words) (words_in s.words) (words_in s.words) qs t.nodes id
                       v.post p' g g' t.tree.guarded here has_g refl
-                      (record { own = (t.tree.guarded.held id v.post g here has_g).stored; others = λ j ne. refl })
-                      (λ z at_z. ⊎_elim (λ e. inl e)
-                          (λ r. inr (r.0, subst (λ (l : List Guard). Contains l z) (sym guards) r.1))
-                          (first_cases g g' gs refl apart z (subst (λ (l : List Guard). Contains l z) is at_z))))))
-          (same_names mound_nodes s.words qs t.nodes t.tree id v.post here p' locks
-              (ap nodes_of is ∙ sym (ap nodes_of guards)))
+                      (record { own = (t.tree.guarded.held id v.post g here has_g).stored; others = λ j ne. refl }) cases)))
+          (same_names mound_nodes s.words qs t.nodes t.tree id v.post here p' locks same)
+
+  -- where it is the first guard
+  first_recounted : (g : Guard) (gs : List Guard) (counted : Node) (new : ℕ) (p' : Post MoundPart)
+      → v.post.own.guards ≡ g ∷ gs → p'.own.guards ≡ guard g.node g.stored counted ∷ gs → p'.locks ≡ v.post.locks
+      → NodeFacts mound_nodes (set s.words 0 new) (set qs id p') (set t.nodes g.node counted)
+  first_recounted g gs counted new p' guards is locks = let g' : Guard = guard g.node g.stored counted in
+      let apart : IsApart (g ∷ gs) = subst IsApart guards (t.tree.names id v.post here).apart in
+      recounted g counted new p' (subst (λ (z : List Guard). Contains z g) (sym guards) (in_first g gs))
+          (λ z at_z. ⊎_elim (λ e. inl e)
+              (λ r. inr (r.0, subst (λ (l : List Guard). Contains l z) (sym guards) r.1))
+              (first_cases g g' gs refl apart z (subst (λ (l : List Guard). Contains l z) is at_z)))
+          (ap nodes_of is ∙ sym (ap nodes_of guards)) locks
+
+  -- and where it is the second
+  second_recounted : (f g : Guard) (gs : List Guard) (counted : Node) (new : ℕ) (p' : Post MoundPart)
+      → v.post.own.guards ≡ f ∷ g ∷ gs → p'.own.guards ≡ f ∷ guard g.node g.stored counted ∷ gs → p'.locks ≡ v.post.locks
+      → NodeFacts mound_nodes (set s.words 0 new) (set qs id p') (set t.nodes g.node counted)
+  second_recounted f g gs counted new p' guards is locks = let g' : Guard = guard g.node g.stored counted in
+      let apart : IsApart (f ∷ g ∷ gs) = subst IsApart guards (t.tree.names id v.post here).apart in
+      recounted g counted new p'
+          (subst (λ (z : List Guard). Contains z g) (sym guards) (in_later f g (g ∷ gs) (in_first g gs)))
+          (λ z at_z. ⊎_elim (λ e. inl e)
+              (λ r. inr (r.0, subst (λ (l : List Guard). Contains l z) (sym guards) r.1))
+              (second_cases f g g' gs refl apart z (subst (λ (l : List Guard). Contains l z) is at_z)))
+          (ap nodes_of is ∙ sym (ap nodes_of guards)) locks
 
   -- Full, under the cells' lock, where no cell is free, by a seat that holds none
   pub places_full : (e : Entry) (new : ℕ) → 0 < v.post.number → Contains v.post.locks cells_lock
@@ -267,7 +288,7 @@ module _ (k : Limits) (s : Table MoundPart) (h : Holds mound_rule k s) (id : ℕ
       let P : Cell → Type 0 = λ d. entries_in cap s.words d.number ≡ raw_of d.entry in
       let stored : All P (c ∷ list) = subst (λ (z : Node). All P (cells z)) is (t.linked.stored 1) in
       placing act (replies.Got c.entry) new own nodes positive refl refl step.0 (length-set t.nodes g.node (Hole list))
-          (recounted g [] (Hole list) new p' guards (ap (first_hole list) guards) refl)
+          (first_recounted g [] (Hole list) new p' guards (ap (first_hole list) guards) refl)
           (subst (λ (z : List Node). MoundFacts cap t.free (held_by (set qs id p')) z
               (after m act (replies.Got c.entry))) at_root
               (subst (λ (z : List Entry). MoundFacts cap t.free (held_by (set qs id p')) (set t.nodes 1 (Hole list)) z)
@@ -282,6 +303,69 @@ module _ (k : Limits) (s : Table MoundPart) (h : Holds mound_rule k s) (id : ℕ
           (λ o e. let same : own_cell c.number (raw_of c.entry) (first_or (numbers list) 0) ≡ o = cc in
               subst (λ (z : OwnCell). (entries_in cap s.words z.number ≡ z.entry) × (nexts_in cap s.words z.number ≡ z.next))
                   same (All-head P c list stored, chain.0))
+
+  -- the cell of an insert of e joins the list of a node that the seat guards
+  joining_draw : (e : Entry) (o : OwnCell) (g : Guard) (list : List Cell) (new : ℕ) → 0 < v.post.number
+      → v.post.own.held ≡ Some o → o.entry ≡ raw_of e → o.next ≡ first_or (numbers (behind e list)) 0 → 1 ≤ g.node
+      → Contains v.post.own.guards g → g.counted ≡ Resting list → MayJoin t.nodes g.node e
+      → let own : MoundPart = after_insert e (Some o) v.post.own in
+      NodeFacts mound_nodes (set s.words 0 new) (set qs id (drawn_post replies.Done own))
+          (set t.nodes g.node (joined list (cell o.number e)))
+      → Places mound_rule k id v (Insert e) (own_mark replies.Done) own new s h
+  joining_draw e o g list new positive holds entry next some_node has_g counted may tree =
+      let own : MoundPart = after_insert e (Some o) v.post.own in let cap : ℕ = k.capacity in
+      let p' : Post MoundPart = drawn_post replies.Done own in let i : ℕ = g.node in
+      let at_g = t.tree.guarded.held id v.post g here has_g in let within = at_g.within in
+      let is : node t.nodes i ≡ Resting list = at_g.counted ∙ counted in
+      let words = (t.alone id v.post here).holds o holds in
+      let joins = event_join cap t.free (held_by qs) (held_by (set qs id p')) t.nodes (left h.history) i o.number e list
+          t.facts some_node within is may
+          (λ n. let sums = held_times n qs id v.post p' here in
+          let old : times n (held_number v.post.own.held) ≡ times n (held_number (Some o)) =
+              ap (λ (z : Option OwnCell). times n (held_number z)) holds in
+          omega (arith, times-cons n o.number (held_by (set qs id p')), times-cons n o.number [])) in
+      placing (Insert e) replies.Done new own (set t.nodes i (joined list (cell o.number e))) positive refl refl joins.0
+          (length-set t.nodes i (joined list (cell o.number e))) tree joins.1
+          (joins_link (entries_in cap s.words) (nexts_in cap s.words) t.nodes i o.number e list t.linked within is
+              (words.0 ∙ entry) (words.1 ∙ next))
+          (λ z none. absurd (cc))
+
+  -- Done, under the lock of one node: it is the root, or its head is not above the entry
+  pub places_done : (e : Entry) (o : OwnCell) (g : Guard) (list : List Cell) (new : ℕ) → 0 < v.post.number
+      → v.post.own.held ≡ Some o → o.entry ≡ raw_of e → o.next ≡ first_or (numbers (behind e list)) 0 → 1 ≤ g.node
+      → v.post.own.guards ≡ g ∷ [] → g.counted ≡ Resting list → (value_of list ≤ raw_of e) ⊎ (g.node ≡ 1)
+      → Places mound_rule k id v (Insert e) (own_mark replies.Done) (after_insert e (Some o) v.post.own) new s h
+  places_done e o g list new positive holds entry next some_node guards counted may =
+      let has_g : Contains v.post.own.guards g = subst (λ (z : List Guard). Contains z g) (sym guards) (in_first g []) in
+      let is : value (node t.nodes g.node) ≡ value_of list =
+          ap value ((t.tree.guarded.held id v.post g here has_g).counted ∙ counted) in
+      joining_draw e o g list new positive holds entry next some_node has_g counted
+          (⊎_elim (λ le. inl (omega arith)) (λ root. inr (inl root)) may)
+          (first_recounted g [] (joined list (cell o.number e)) new
+              (drawn_post replies.Done (after_insert e (Some o) v.post.own)) guards
+              (ap (last_joined (cell o.number e)) guards
+                  ∙ ap (λ (z : Node). guard g.node g.stored (joining (cell o.number e) z) ∷ []) counted) refl)
+
+  -- and under those of a node and of its parent, whose value is not above the entry
+  pub places_done_below : (e : Entry) (o : OwnCell) (f g : Guard) (upper list : List Cell) (new : ℕ)
+      → 0 < v.post.number → v.post.own.held ≡ Some o → o.entry ≡ raw_of e
+      → o.next ≡ first_or (numbers (behind e list)) 0 → 1 ≤ g.node → v.post.own.guards ≡ f ∷ g ∷ []
+      → g.node / 2 ≡ f.node → f.counted ≡ Resting upper → value_of upper ≤ raw_of e → g.counted ≡ Resting list
+      → Places mound_rule k id v (Insert e) (own_mark replies.Done) (after_insert e (Some o) v.post.own) new s h
+  places_done_below e o f g upper list new positive holds entry next some_node guards child above under counted =
+      let has_f : Contains v.post.own.guards f =
+          subst (λ (z : List Guard). Contains z f) (sym guards) (in_first f (g ∷ [])) in
+      let has_g : Contains v.post.own.guards g =
+          subst (λ (z : List Guard). Contains z g) (sym guards) (in_later f g (g ∷ []) (in_first g [])) in
+      let is : value (node t.nodes f.node) ≡ value_of upper =
+          ap value ((t.tree.guarded.held id v.post f here has_f).counted ∙ above) in
+      let same : value (node t.nodes (g.node / 2)) ≡ value (node t.nodes f.node) =
+          ap (λ (z : ℕ). value (node t.nodes z)) child in
+      joining_draw e o g list new positive holds entry next some_node has_g counted (inr (inr (omega arith)))
+          (second_recounted f g [] (joined list (cell o.number e)) new
+              (drawn_post replies.Done (after_insert e (Some o) v.post.own)) guards
+              (ap (last_joined (cell o.number e)) guards
+                  ∙ ap (λ (z : Node). f ∷ guard g.node g.stored (joining (cell o.number e) z) ∷ []) counted) refl)
 
 module _ (k : Limits) (id : ℕ) (v : View MoundPart) where
   -- an insert that finds no free cell may answer Full
