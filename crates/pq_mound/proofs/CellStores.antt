@@ -1,5 +1,6 @@
 -- A store to a word of the cell that a seat holds keeps the mound's facts.
-use Rattle.std.proofs.Common.{◌≡◌, ◌≢◌, ◌⊎◌, ℕ, ◌+◌, ◌*◌, ◌<◌, ◌≤◌, cond, List, [], ◌∷◌, length, get_or, set, Some, ⊎_elim}
+use Rattle.std.proofs.Common.{◌≡◌, ◌≢◌, ℕ, ◌+◌, ◌<◌, ◌≤◌, cond, List, [], ◌∷◌, length, get_or, set, Some}
+use Rattle.std.proofs.Common.{⊎_elim}
 use Rattle.std.proofs.Common.{refl, sym, ap, ◌∙◌, subst, arith, length-set, get_or-set_other}
 use Rattle.std.specs.Prelude.{Contains, Option, sum_by, nat_lt, ◌==◌}
 use native.Mathlib.Decide.{ℕ_discrete}
@@ -27,7 +28,6 @@ use Rattle.pq_mound.specs.declared.views.MoundPart.{MoundPart}
 use Rattle.pq_mound.specs.declared.views.OwnCell.{OwnCell}
 use Rattle.pq_mound.specs.Nodes.{all_cells, numbers}
 use Rattle.pq_mound.specs.Cells.{times}
-use Rattle.pq_mound.specs.Chains.{IsChain, AreLinked}
 use Rattle.pq_mound.specs.Facts.{MoundFacts}
 use Rattle.pq_mound.specs.Laws.{IsStoreTo}
 use Rattle.pq_mound.specs.Layout.{cell_base, entry_word, next_word}
@@ -51,8 +51,8 @@ guarded_far : (words words' : List ℕ) (posts posts' : List (Post MoundPart)) (
     → IsGuarded (kind_of mound_nodes) (locks_in words') (words_in words') posts' t
 guarded_far words words' posts posts' t same_locks same_words was f =
     let back : (j : ℕ) (q : Post MoundPart) (g : Guard) → (to : get_elem? posts' j ≡ some q) → Contains q.own.guards g
-        → Contains (was j q to).0.own.guards g = (λ j q g to has. subst (λ (z : List Guard). Contains z g)
-        (was j q to).2 has) in record {
+    → Contains (was j q to).0.own.guards g = (λ j q g to has. subst (λ (z : List Guard). Contains z g)
+    (was j q to).2 has) in record {
       free = λ i lt zero. subst (λ (w : ℕ). (kind_of mound_nodes).means (get_or t i (Resting [])) w)
           (sym (same_words i lt)) (f.free i lt (sym (same_locks i lt) ∙ zero));
       held = λ j q g to has. let o = was j q to in let old = f.held j o.0 g o.1 (back j q g to has) in record {
@@ -95,7 +95,12 @@ module _ (k : Limits) (s : Table MoundPart) (h : Holds mound_rule k s) (id : ℕ
 
   at_most : (x y z : ℕ) → x + y + z ≡ cond {A = ℕ} (nat_lt n c) 1 0 → 1 ≤ z
       → (x ≡ 0) × (y ≡ 0) × (z ≡ 1) × (n < c)
-  at_most x y z is some_held = (grind (arith, nat_tests), grind (arith, nat_tests), grind (arith, nat_tests), grind (arith, nat_tests))
+  at_most x y z is some_held = (
+    grind (arith, nat_tests),
+    grind (arith, nat_tests),
+    grind (arith, nat_tests),
+    grind (arith, nat_tests),
+  )
 
   -- the cell is in no list and not free, and this seat alone holds it
   only : (times n (numbers (all_cells t.nodes)) ≡ 0) × (times n t.free ≡ 0) × (times n (held_by qs) ≡ 1) × (n < c)
@@ -122,7 +127,7 @@ module _ (k : Limits) (s : Table MoundPart) (h : Holds mound_rule k s) (id : ℕ
   far_step i x entry next far same_entries same_nexts own_entry own_next fits =
       let ws : List ℕ = set s.words i x in let p' : Post MoundPart = keeping v.post n entry next in
       let same : (j : ℕ) → j < cell_base c → get_or ws j 0 ≡ get_or s.words j 0 =
-          (λ j lt. get_or-set_other s.words i j x 0 (λ e. omega arith)) in
+      (λ j lt. get_or-set_other s.words i j x 0 (λ e. omega arith)) in
       let a = t.alone id v.post here in let cells = t.cells in let r = t.ranged in let whole = t.whole in record {
         long = length-set s.words i x ∙ t.long;
         seated = t.seated;
@@ -131,12 +136,15 @@ module _ (k : Limits) (s : Table MoundPart) (h : Holds mound_rule k s) (id : ℕ
         whole = t.whole;
         tree = step_keeps mound_nodes s.words qs t.nodes t.tree id v.post here ws p' t.nodes
             (guarded_far s.words ws qs (set qs id p') t.nodes
-                (λ m lt. same (lock_of m) (omega arith)) (λ m lt. same (word_of m) (omega arith))
-                (λ j q to. ⊎_elim
-                    (λ e. (v.post, subst (λ (z : ℕ). get_elem? qs z ≡ some v.post) (sym e.0) here,
-                        ap (λ (z : Post MoundPart). z.own.guards) (sym e.1)))
-                    (λ b. (q, b.1, refl)) (at_set qs id j p' q to))
-                t.tree.guarded)
+            (λ m lt. same (lock_of m) (omega arith)) (λ m lt. same (word_of m) (omega arith))
+            (λ j q to. ⊎_elim
+            (λ e. (
+              v.post,
+              subst (λ (z : ℕ). get_elem? qs z ≡ some v.post) (sym e.0) here,
+              ap (λ (z : Post MoundPart). z.own.guards) (sym e.1),
+            ))
+            (λ b. (q, b.1, refl)) (at_set qs id j p' q to))
+            t.tree.guarded)
             (same_names mound_nodes s.words qs t.nodes t.tree id v.post here p' refl refl);
         facts = subst (λ (z : List ℕ). MoundFacts c t.free z t.nodes (left h.history))
             (sym (held_same qs id v.post p' here (sym (ap held_number holds)))) t.facts;
@@ -147,9 +155,11 @@ module _ (k : Limits) (s : Table MoundPart) (h : Holds mound_rule k s) (id : ℕ
           starts = same 25 (omega arith) ∙ cells.starts;
           counted = λ z. same 26 (omega arith) ∙ cells.counted (sym (same 24 (omega arith)) ∙ z);
           named = λ j q to has. ⊎_elim
-              (λ e. let old = cells.named id v.post here (subst (λ (z : Post MoundPart). Contains z.locks 24) (sym e.1) has) in
-              (ap (λ (z : Post MoundPart). z.own.free) (sym e.1) ∙ old.0,
-                  ap (λ (z : Post MoundPart). z.own.count) (sym e.1) ∙ (old.1 ∙ sym (same 26 (omega arith)))))
+              (λ e. let old = cells.named id v.post here (subst
+              (λ (z : Post MoundPart). Contains z.locks 24) (sym e.1) has) in (
+                ap (λ (z : Post MoundPart). z.own.free) (sym e.1) ∙ old.0,
+                ap (λ (z : Post MoundPart). z.own.count) (sym e.1) ∙ (old.1 ∙ sym (same 26 (omega arith))),
+              ))
               (λ b. let old = cells.named j q b.1 has in (old.0, old.1 ∙ sym (same 26 (omega arith))))
               (at_set qs id j p' q to);
         };
@@ -167,7 +177,7 @@ module _ (k : Limits) (s : Table MoundPart) (h : Holds mound_rule k s) (id : ℕ
               owes = a.owes;
               holds = λ z is. let one : own_cell n entry next ≡ z = cc in
                   subst (λ (y : OwnCell). (entries_in c ws y.number ≡ y.entry) × (nexts_in c ws y.number ≡ y.next)) one
-                      (own_entry, own_next);
+                  (own_entry, own_next);
             }))
             (λ b. let old = t.alone j q b.1 in record {
               quiet = old.quiet;
@@ -185,11 +195,11 @@ module _ (k : Limits) (s : Table MoundPart) (h : Holds mound_rule k s) (id : ℕ
   stores_next x = let low = own_low in let long = t.long in let words = (t.alone id v.post here).holds o holds in
       let entry = t.ranged.entries n low in
       far_step (next_word c n) x o.entry x (omega arith)
-          (λ j ne. get_or-set_other s.words (next_word c n) (entry_word c j) x 0 (λ e. omega arith))
-          (λ j ne. get_or-set_other s.words (next_word c n) (next_word c j) x 0 (λ e. ne (omega arith)))
-          (get_or-set_other s.words (next_word c n) (entry_word c n) x 0 (λ e. omega arith) ∙ words.0)
-          (get_or-set_at s.words (next_word c n) (next_word c n) x 0 refl (omega arith))
-          (let is = words.0 in omega arith)
+      (λ j ne. get_or-set_other s.words (next_word c n) (entry_word c j) x 0 (λ e. omega arith))
+      (λ j ne. get_or-set_other s.words (next_word c n) (next_word c j) x 0 (λ e. ne (omega arith)))
+      (get_or-set_other s.words (next_word c n) (entry_word c n) x 0 (λ e. omega arith) ∙ words.0)
+      (get_or-set_at s.words (next_word c n) (next_word c n) x 0 refl (omega arith))
+      (let is = words.0 in omega arith)
 
   -- and its entry word
   pub stores_entry : (x : ℕ) → x < raw_limit
@@ -197,7 +207,7 @@ module _ (k : Limits) (s : Table MoundPart) (h : Holds mound_rule k s) (id : ℕ
   stores_entry x fits = let low = own_low in let long = t.long in
       let words = (t.alone id v.post here).holds o holds in
       far_step (entry_word c n) x x o.next (omega arith)
-          (λ j ne. get_or-set_other s.words (entry_word c n) (entry_word c j) x 0 (λ e. ne (omega arith)))
-          (λ j ne. get_or-set_other s.words (entry_word c n) (next_word c j) x 0 (λ e. omega arith))
-          (get_or-set_at s.words (entry_word c n) (entry_word c n) x 0 refl (omega arith))
-          (get_or-set_other s.words (entry_word c n) (next_word c n) x 0 (λ e. omega arith) ∙ words.1) fits
+      (λ j ne. get_or-set_other s.words (entry_word c n) (entry_word c j) x 0 (λ e. ne (omega arith)))
+      (λ j ne. get_or-set_other s.words (entry_word c n) (next_word c j) x 0 (λ e. omega arith))
+      (get_or-set_at s.words (entry_word c n) (entry_word c n) x 0 refl (omega arith))
+      (get_or-set_other s.words (entry_word c n) (next_word c n) x 0 (λ e. omega arith) ∙ words.1) fits

@@ -1,10 +1,11 @@
 -- The draws that change nothing of the mound: Full, Empty and Above.
-use Rattle.std.proofs.Common.{◌≡◌, ◌≢◌, ◌⊎◌, ℕ, zero, suc, ◌+◌, ◌/◌, ◌<◌, ◌≤◌, Bool, true, false, cond, eqb, List, [], ◌∷◌, ◌++◌}
-use Rattle.std.proofs.Common.{map, length, get_or, set, min, Some, None, inl, inr, ⊎_elim, refl, sym, ap, ◌∙◌, subst, arith}
+use Rattle.std.proofs.Common.{◌≡◌, ◌≢◌, ◌⊎◌, ℕ, zero, suc, ◌+◌, ◌/◌, ◌<◌, ◌≤◌, Bool, true, false, cond, eqb, List, []}
+use Rattle.std.proofs.Common.{◌∷◌, ◌++◌}
+use Rattle.std.proofs.Common.{length, set, Some, None, inl, inr, ⊎_elim, refl, sym, ap, ◌∙◌, subst}
+use Rattle.std.proofs.Common.{arith}
 use Rattle.std.proofs.lemmas.List.{length-set}
 use Rattle.std.proofs.lemmas.List.Elements.{All-head}
-use Rattle.std.specs.Prelude.{All, Contains, Option, IsSomeAnd, slice_index, sum_by, nat_le}
-use Rattle.std.proofs.lemmas.Bool.Decides.{nat_tests}
+use Rattle.std.specs.Prelude.{All, Contains, Option, IsSomeAnd, sum_by}
 use Rattle.std.proofs.lemmas.List.Concat.{length-flat_map}
 use Rattle.std.proofs.lemmas.List.Sums.{sum_by-cons}
 use mathlib.Core.Option.{some, some-injective, some-ne-none}
@@ -23,11 +24,11 @@ use Rattle.pq_seats.specs.declared.views.Limits.{Limits}
 use Rattle.pq_seats.specs.declared.views.Post.{Post}
 use Rattle.pq_seats.specs.declared.views.View.{View}
 use Rattle.pq_seats.specs.Views.{post_of}
-use Rattle.pq_seats.specs.Letters.{owed_count, letter_count}
+use Rattle.pq_seats.specs.Letters.{owed_count}
 use Rattle.pq_seats.specs.Batches.{Batch}
 use Rattle.pq_seats.specs.Posts.{placed_post}
 use Rattle.pq_seats.specs.Rules.{Table, Holds}
-use Rattle.pq_seats.specs.Allowed.{helps, Places, MayDraw}
+use Rattle.pq_seats.specs.Allowed.{helps, Places}
 use Rattle.pq_seats.proofs.Lists.{in_first, in_later, not_in}
 use Rattle.pq_seats.proofs.Keeps.{number_low}
 use Rattle.pq_nodes.specs.Guards.{IsGuarded}
@@ -45,7 +46,7 @@ use Rattle.pq_mound.specs.declared.views.MoundPart.{MoundPart}
 use Rattle.pq_mound.specs.declared.views.OwnCell.{OwnCell}
 use Rattle.pq_mound.specs.Nodes.{node, cells, numbers, cell}
 use Rattle.pq_mound.specs.Order.{value_of, value, MayJoin, behind, joined}
-use Rattle.pq_mound.specs.Batches.{inserted, after_insert, first_hole, after_removal, joining, last_joined}
+use Rattle.pq_mound.specs.Batches.{after_insert, first_hole, after_removal, joining, last_joined}
 use Rattle.pq_mound.specs.Cells.{times}
 use Rattle.pq_mound.specs.Chains.{first_or, IsLinked, AreLinked}
 use Rattle.pq_mound.specs.Facts.{MoundFacts}
@@ -62,7 +63,7 @@ use Rattle.pq_mound.proofs.Events.{event_full, event_least, event_empty, event_t
 use Rattle.pq_mound.proofs.Links.{takes_link, joins_link}
 
 -- the batch of the own mark alone
-abbrev own_mark : Reply → Batch
+abbrev pub own_mark : Reply → Batch
 own_mark reply = record { before = []; reply = reply; after = [] }
 
 own_apart : (n m : ℕ) → helps m [] + helps m [] + cond (eqb n m) 1 0 ≤ 1
@@ -122,17 +123,18 @@ module _ (k : Limits) (s : Table MoundPart) (h : Holds mound_rule k s) (id : ℕ
       let f : View MoundPart → ℕ = λ w. length (held_number w.post.own.held) in
       let g : View MoundPart → ℕ = λ w. length w.lanes in
       let all : length (held_by qs) ≡ sum_by f s.views =
-          length-flat_map (λ (p : Post MoundPart). held_number p.own.held) qs
-          ∙ map_sum (λ (p : Post MoundPart). length (held_number p.own.held)) post_of s.views in
-      let has_lane : (j : ℕ) (w : View MoundPart) → get_elem? s.views j ≡ some w → w.post.number ≢ 0 → 1 ≤ length w.lanes =
-          (λ j w to some_number. let first = (h.each j w to).first some_number in
-          let long = ap (λ (z : List _). length z) first.2 in omega arith) in
+      length-flat_map (λ (p : Post MoundPart). held_number p.own.held) qs
+      ∙ map_sum (λ (p : Post MoundPart). length (held_number p.own.held)) post_of s.views in
+      let has_lane : (j : ℕ) (w : View MoundPart) → get_elem? s.views j ≡ some w → w.post.number ≢ 0
+      → 1 ≤ length w.lanes =
+      (λ j w to some_number. let first = (h.each j w to).first some_number in
+      let long = ap (λ (z : List _). length z) first.2 in omega arith) in
       let mine : f v ≡ 0 = ap (λ (o : Option OwnCell). length (held_number o)) bare in
       let lane = has_lane id v at seated in
       let less = sum_less f g s.views id v at (omega arith) (λ j w to. dite (ℕ_discrete w.post.number 0)
-          (λ e. let none : f w ≡ 0 = ap (λ (p : Post MoundPart). length (held_number p.own.held))
-              ((h.each j w to).empty e) in omega arith)
-          (λ ne. let one = held_one w.post.own.held in let some_lane = has_lane j w to ne in omega arith)) in
+      (λ e. let none : f w ≡ 0 = ap (λ (p : Post MoundPart). length (held_number p.own.held))
+      ((h.each j w to).empty e) in omega arith)
+      (λ ne. let one = held_one w.post.own.held in let some_lane = has_lane j w to ne in omega arith)) in
       let lanes = h.lanes in omega arith
 
   -- What a draw of the own mark makes of the post
@@ -144,7 +146,8 @@ module _ (k : Limits) (s : Table MoundPart) (h : Holds mound_rule k s) (id : ℕ
       → own.free ≡ v.post.own.free → own.count ≡ v.post.own.count
       → IsStep k.seats k.capacity (left h.history) act reply → length nodes ≡ length t.nodes
       → NodeFacts mound_nodes (set s.words 0 new) (set qs id (drawn_post reply own)) nodes
-      → MoundFacts k.capacity t.free (held_by (set qs id (drawn_post reply own))) nodes (after (left h.history) act reply)
+      → MoundFacts k.capacity t.free (held_by (set qs id (drawn_post reply own))) nodes (after
+      (left h.history) act reply)
       → AreLinked (entries_in k.capacity s.words) (nexts_in k.capacity s.words) nodes
       → ((o : OwnCell) → own.held ≡ Some o
       → (entries_in k.capacity s.words o.number ≡ o.entry) × (nexts_in k.capacity s.words o.number ≡ o.next))
@@ -161,7 +164,7 @@ module _ (k : Limits) (s : Table MoundPart) (h : Holds mound_rule k s) (id : ℕ
         tied = steps k s h id v at 0 new (omega arith) p' t.free nodes (after (left h.history) act reply) (inl refl)
             (λ e. omega arith) (λ n lt e. absurd (omega arith)) whole tree facts linked
             (free_on k s h id v at 0 new (omega arith) p' (λ e. omega arith) (λ e. omega arith) (λ e. omega arith)
-                free count (λ has. has))
+            free count (λ has. has))
             (record { quiet = refl; owes = ap (λ (z : List (ℕ × ℕ)). z ++ []) a.owes; holds = holds });
       }
 
@@ -171,13 +174,13 @@ module _ (k : Limits) (s : Table MoundPart) (h : Holds mound_rule k s) (id : ℕ
       → Places mound_rule k id v act (own_mark reply) v.post.own new s h
   quiet act reply new positive legal same = let p' : Post MoundPart = drawn_post reply v.post.own in
       placing act reply new v.post.own t.nodes positive refl refl legal refl
-          (frame_keeps mound_nodes s.words qs t.nodes t.tree id v.post here (set s.words 0 new) p'
-              (same_locks s.words 0 new (omega arith)) (same_words s.words 0 new (omega arith)) refl
-              (λ i has. has) (λ i has. has))
-          (subst (λ (m : List Entry). MoundFacts k.capacity t.free (held_by (set qs id p')) t.nodes m) same
-              (subst (λ (z : List ℕ). MoundFacts k.capacity t.free z t.nodes (left h.history))
-                  (sym (held_same qs id v.post p' here refl)) t.facts))
-          t.linked (t.alone id v.post here).holds
+      (frame_keeps mound_nodes s.words qs t.nodes t.tree id v.post here (set s.words 0 new) p'
+      (same_locks s.words 0 new (omega arith)) (same_words s.words 0 new (omega arith)) refl
+      (λ i has. has) (λ i has. has))
+      (subst (λ (m : List Entry). MoundFacts k.capacity t.free (held_by (set qs id p')) t.nodes m) same
+      (subst (λ (z : List ℕ). MoundFacts k.capacity t.free z t.nodes (left h.history))
+      (sym (held_same qs id v.post p' here refl)) t.facts))
+      t.linked (t.alone id v.post here).holds
 
   -- a guard's node counts as another behind a draw
   recounted : (g : Guard) (counted : Node) (new : ℕ) (p' : Post MoundPart) → Contains v.post.own.guards g
@@ -190,14 +193,20 @@ module _ (k : Limits) (s : Table MoundPart) (h : Holds mound_rule k s) (id : ℕ
       let locks_same : locks_in ws ≡ locks_in s.words = (λ j n. same_locks s.words 0 new (omega arith) n j) in
       let words_same : words_in ws ≡ words_in s.words = (λ j n. same_words s.words 0 new (omega arith) n j) in
       step_keeps mound_nodes s.words qs t.nodes t.tree id v.post here ws p' (set t.nodes g.node counted)
-          (subst (λ (z : ℕ → ℕ). IsGuarded (kind_of mound_nodes) z (words_in ws) (set qs id p') (set t.nodes g.node counted))
-              (sym locks_same)
-              (subst (λ (z : ℕ → ℕ). IsGuarded (kind_of mound_nodes) (locks_in s.words) z (set qs id p')
-                  (set t.nodes g.node counted)) (sym words_same)
-                  (guard_written (kind_of mound_nodes) (locks_in s.words) (words_in s.words) (words_in s.words) qs t.nodes id
-                      v.post p' g g' t.tree.guarded here has_g refl
-                      (record { own = (t.tree.guarded.held id v.post g here has_g).stored; others = λ j ne. refl }) cases)))
-          (same_names mound_nodes s.words qs t.nodes t.tree id v.post here p' locks same)
+      (subst (λ (z : ℕ → ℕ). IsGuarded (kind_of mound_nodes) z (words_in ws) (set qs id p')
+      (set t.nodes g.node counted))
+      (sym locks_same)
+      (subst (λ (z : ℕ → ℕ). IsGuarded (kind_of mound_nodes) (locks_in s.words) z (set qs id p')
+      (set t.nodes g.node counted)) (sym words_same)
+      (guard_written (kind_of mound_nodes) (locks_in s.words) (words_in s.words)
+      (words_in s.words) qs t.nodes id
+      v.post p' g g' t.tree.guarded here has_g refl
+      (record {
+        own = (t.tree.guarded.held id v.post g here has_g).stored;
+        others =
+            λ j ne. refl;
+      }) cases)))
+      (same_names mound_nodes s.words qs t.nodes t.tree id v.post here p' locks same)
 
   -- where it is the first guard
   first_recounted : (g : Guard) (gs : List Guard) (counted : Node) (new : ℕ) (p' : Post MoundPart)
@@ -206,23 +215,24 @@ module _ (k : Limits) (s : Table MoundPart) (h : Holds mound_rule k s) (id : ℕ
   first_recounted g gs counted new p' guards is locks = let g' : Guard = guard g.node g.stored counted in
       let apart : IsApart (g ∷ gs) = subst IsApart guards (t.tree.names id v.post here).apart in
       recounted g counted new p' (subst (λ (z : List Guard). Contains z g) (sym guards) (in_first g gs))
-          (λ z at_z. ⊎_elim (λ e. inl e)
-              (λ r. inr (r.0, subst (λ (l : List Guard). Contains l z) (sym guards) r.1))
-              (first_cases g g' gs refl apart z (subst (λ (l : List Guard). Contains l z) is at_z)))
-          (ap nodes_of is ∙ sym (ap nodes_of guards)) locks
+      (λ z at_z. ⊎_elim (λ e. inl e)
+      (λ r. inr (r.0, subst (λ (l : List Guard). Contains l z) (sym guards) r.1))
+      (first_cases g g' gs refl apart z (subst (λ (l : List Guard). Contains l z) is at_z)))
+      (ap nodes_of is ∙ sym (ap nodes_of guards)) locks
 
   -- and where it is the second
   second_recounted : (f g : Guard) (gs : List Guard) (counted : Node) (new : ℕ) (p' : Post MoundPart)
-      → v.post.own.guards ≡ f ∷ g ∷ gs → p'.own.guards ≡ f ∷ guard g.node g.stored counted ∷ gs → p'.locks ≡ v.post.locks
+      → v.post.own.guards ≡ f ∷ g ∷ gs → p'.own.guards ≡ f ∷ guard g.node g.stored counted ∷ gs
+      → p'.locks ≡ v.post.locks
       → NodeFacts mound_nodes (set s.words 0 new) (set qs id p') (set t.nodes g.node counted)
   second_recounted f g gs counted new p' guards is locks = let g' : Guard = guard g.node g.stored counted in
       let apart : IsApart (f ∷ g ∷ gs) = subst IsApart guards (t.tree.names id v.post here).apart in
       recounted g counted new p'
-          (subst (λ (z : List Guard). Contains z g) (sym guards) (in_later f g (g ∷ gs) (in_first g gs)))
-          (λ z at_z. ⊎_elim (λ e. inl e)
-              (λ r. inr (r.0, subst (λ (l : List Guard). Contains l z) (sym guards) r.1))
-              (second_cases f g g' gs refl apart z (subst (λ (l : List Guard). Contains l z) is at_z)))
-          (ap nodes_of is ∙ sym (ap nodes_of guards)) locks
+      (subst (λ (z : List Guard). Contains z g) (sym guards) (in_later f g (g ∷ gs) (in_first g gs)))
+      (λ z at_z. ⊎_elim (λ e. inl e)
+      (λ r. inr (r.0, subst (λ (l : List Guard). Contains l z) (sym guards) r.1))
+      (second_cases f g g' gs refl apart z (subst (λ (l : List Guard). Contains l z) is at_z)))
+      (ap nodes_of is ∙ sym (ap nodes_of guards)) locks
 
   -- Full, under the cells' lock, where no cell is free, by a seat that holds none
   pub places_full : (e : Entry) (new : ℕ) → 0 < v.post.number → Contains v.post.locks cells_lock
@@ -231,10 +241,10 @@ module _ (k : Limits) (s : Table MoundPart) (h : Holds mound_rule k s) (id : ℕ
   places_full e new positive locked none bare =
       let free : t.free ≡ [] = sym (t.cells.named id v.post here locked).0 ∙ none in
       quiet (Insert e) replies.Full new positive
-          (event_full k.seats k.capacity (held_by qs) t.nodes (left h.history)
-              (subst (λ (z : List ℕ). MoundFacts k.capacity z (held_by qs) t.nodes (left h.history)) free t.facts)
-              (few_held (λ z. omega arith) bare))
-          refl
+      (event_full k.seats k.capacity (held_by qs) t.nodes (left h.history)
+      (subst (λ (z : List ℕ). MoundFacts k.capacity z (held_by qs) t.nodes (left h.history)) free t.facts)
+      (few_held (λ z. omega arith) bare))
+      refl
 
   -- the root counts as its guard says
   root_is : (g : Guard) → Contains v.post.own.guards g → g.node ≡ 1 → node t.nodes 1 ≡ g.counted
@@ -262,10 +272,10 @@ module _ (k : Limits) (s : Table MoundPart) (h : Holds mound_rule k s) (id : ℕ
       → Places mound_rule k id v (RemoveBelow limit) (own_mark replies.Above) v.post.own new s h
   places_above limit g c list new positive has is counted high =
       quiet (RemoveBelow limit) replies.Above new positive
-          (subst (λ (o : Option Entry). IsSomeAnd o (λ (e : Entry). limit ≤ e.key))
-              (sym (event_least k.capacity t.free (held_by qs) t.nodes (left h.history) c list t.facts
-                  (root_is g has is ∙ counted))) high)
-          refl
+      (subst (λ (o : Option Entry). IsSomeAnd o (λ (e : Entry). limit ≤ e.key))
+      (sym (event_least k.capacity t.free (held_by qs) t.nodes (left h.history) c list t.facts
+      (root_is g has is ∙ counted))) high)
+      refl
 
   -- Got, under the root's lock alone: the head is off the root's list, and the seat holds its cell
   pub places_got : (act : Act) (g : Guard) (c : Cell) (list : List Cell) (new : ℕ) → 0 < v.post.number
@@ -278,31 +288,33 @@ module _ (k : Limits) (s : Table MoundPart) (h : Holds mound_rule k s) (id : ℕ
       let own : MoundPart = after_removal (c ∷ list) v.post.own in
       let p' : Post MoundPart = drawn_post (replies.Got c.entry) own in
       let m : List Entry = left h.history in let cap : ℕ = k.capacity in
-      let has_g : Contains v.post.own.guards g = subst (λ (z : List Guard). Contains z g) (sym guards) (in_first g []) in
+      let has_g : Contains v.post.own.guards g = subst
+      (λ (z : List Guard). Contains z g) (sym guards) (in_first g []) in
       let is : node t.nodes 1 ≡ Resting (c ∷ list) = root_is g has_g root ∙ counted in
       let step = steps_so (event_least cap t.free (held_by qs) t.nodes m c list t.facts is) in
       let nodes : List Node = set t.nodes g.node (Hole list) in
       let at_root : set t.nodes 1 (Hole list) ≡ nodes = ap (λ (z : ℕ). set t.nodes z (Hole list)) (sym root) in
       let chain : IsLinked (nexts_in cap s.words) (Resting (c ∷ list)) =
-          subst (IsLinked (nexts_in cap s.words)) is (t.linked.linked 1) in
+      subst (IsLinked (nexts_in cap s.words)) is (t.linked.linked 1) in
       let P : Cell → Type 0 = λ d. entries_in cap s.words d.number ≡ raw_of d.entry in
       let stored : All P (c ∷ list) = subst (λ (z : Node). All P (cells z)) is (t.linked.stored 1) in
       placing act (replies.Got c.entry) new own nodes positive refl refl step.0 (length-set t.nodes g.node (Hole list))
-          (first_recounted g [] (Hole list) new p' guards (ap (first_hole list) guards) refl)
-          (subst (λ (z : List Node). MoundFacts cap t.free (held_by (set qs id p')) z
-              (after m act (replies.Got c.entry))) at_root
-              (subst (λ (z : List Entry). MoundFacts cap t.free (held_by (set qs id p')) (set t.nodes 1 (Hole list)) z)
-                  step.1
-                  (event_take cap t.free (held_by qs) (held_by (set qs id p')) t.nodes m c list t.facts is
-                      (λ n. let sums = held_times n qs id v.post p' here in
-                      let old : times n (held_number v.post.own.held) ≡ times n (held_number None) =
-                          ap (λ (o : Option OwnCell). times n (held_number o)) bare in
-                      omega (arith, times-cons n c.number (held_by qs), times-cons n c.number [])))))
-          (subst (AreLinked (entries_in cap s.words) (nexts_in cap s.words)) at_root
-              (takes_link (entries_in cap s.words) (nexts_in cap s.words) t.nodes c list t.linked t.facts.rooted is))
-          (λ o e. let same : own_cell c.number (raw_of c.entry) (first_or (numbers list) 0) ≡ o = cc in
-              subst (λ (z : OwnCell). (entries_in cap s.words z.number ≡ z.entry) × (nexts_in cap s.words z.number ≡ z.next))
-                  same (All-head P c list stored, chain.0))
+      (first_recounted g [] (Hole list) new p' guards (ap (first_hole list) guards) refl)
+      (subst (λ (z : List Node). MoundFacts cap t.free (held_by (set qs id p')) z
+      (after m act (replies.Got c.entry))) at_root
+      (subst (λ (z : List Entry). MoundFacts cap t.free (held_by (set qs id p')) (set t.nodes 1 (Hole list)) z)
+      step.1
+      (event_take cap t.free (held_by qs) (held_by (set qs id p')) t.nodes m c list t.facts is
+      (λ n. let sums = held_times n qs id v.post p' here in
+      let old : times n (held_number v.post.own.held) ≡ times n (held_number None) =
+      ap (λ (o : Option OwnCell). times n (held_number o)) bare in
+      omega (arith, times-cons n c.number (held_by qs), times-cons n c.number [])))))
+      (subst (AreLinked (entries_in cap s.words) (nexts_in cap s.words)) at_root
+      (takes_link (entries_in cap s.words) (nexts_in cap s.words) t.nodes c list t.linked t.facts.rooted is))
+      (λ o e. let same : own_cell c.number (raw_of c.entry) (first_or (numbers list) 0) ≡ o = cc in
+      subst (λ (z : OwnCell). (entries_in cap s.words z.number ≡ z.entry) ×
+      (nexts_in cap s.words z.number ≡ z.next))
+      same (All-head P c list stored, chain.0))
 
   -- the cell of an insert of e joins the list of a node that the seat guards
   joining_draw : (e : Entry) (o : OwnCell) (g : Guard) (list : List Cell) (new : ℕ) → 0 < v.post.number
@@ -310,7 +322,7 @@ module _ (k : Limits) (s : Table MoundPart) (h : Holds mound_rule k s) (id : ℕ
       → Contains v.post.own.guards g → g.counted ≡ Resting list → MayJoin t.nodes g.node e
       → let own : MoundPart = after_insert e (Some o) v.post.own in
       NodeFacts mound_nodes (set s.words 0 new) (set qs id (drawn_post replies.Done own))
-          (set t.nodes g.node (joined list (cell o.number e)))
+      (set t.nodes g.node (joined list (cell o.number e)))
       → Places mound_rule k id v (Insert e) (own_mark replies.Done) own new s h
   joining_draw e o g list new positive holds entry next some_node has_g counted may tree =
       let own : MoundPart = after_insert e (Some o) v.post.own in let cap : ℕ = k.capacity in
@@ -319,16 +331,16 @@ module _ (k : Limits) (s : Table MoundPart) (h : Holds mound_rule k s) (id : ℕ
       let is : node t.nodes i ≡ Resting list = at_g.counted ∙ counted in
       let words = (t.alone id v.post here).holds o holds in
       let joins = event_join cap t.free (held_by qs) (held_by (set qs id p')) t.nodes (left h.history) i o.number e list
-          t.facts some_node within is may
-          (λ n. let sums = held_times n qs id v.post p' here in
-          let old : times n (held_number v.post.own.held) ≡ times n (held_number (Some o)) =
-              ap (λ (z : Option OwnCell). times n (held_number z)) holds in
-          omega (arith, times-cons n o.number (held_by (set qs id p')), times-cons n o.number [])) in
+      t.facts some_node within is may
+      (λ n. let sums = held_times n qs id v.post p' here in
+      let old : times n (held_number v.post.own.held) ≡ times n (held_number (Some o)) =
+      ap (λ (z : Option OwnCell). times n (held_number z)) holds in
+      omega (arith, times-cons n o.number (held_by (set qs id p')), times-cons n o.number [])) in
       placing (Insert e) replies.Done new own (set t.nodes i (joined list (cell o.number e))) positive refl refl joins.0
-          (length-set t.nodes i (joined list (cell o.number e))) tree joins.1
-          (joins_link (entries_in cap s.words) (nexts_in cap s.words) t.nodes i o.number e list t.linked within is
-              (words.0 ∙ entry) (words.1 ∙ next))
-          (λ z none. absurd (cc))
+      (length-set t.nodes i (joined list (cell o.number e))) tree joins.1
+      (joins_link (entries_in cap s.words) (nexts_in cap s.words) t.nodes i o.number e list t.linked within is
+      (words.0 ∙ entry) (words.1 ∙ next))
+      (λ z none. absurd (cc))
 
   -- Done, under the lock of one node: it is the root, or its head is not above the entry
   pub places_done : (e : Entry) (o : OwnCell) (g : Guard) (list : List Cell) (new : ℕ) → 0 < v.post.number
@@ -336,15 +348,16 @@ module _ (k : Limits) (s : Table MoundPart) (h : Holds mound_rule k s) (id : ℕ
       → v.post.own.guards ≡ g ∷ [] → g.counted ≡ Resting list → (value_of list ≤ raw_of e) ⊎ (g.node ≡ 1)
       → Places mound_rule k id v (Insert e) (own_mark replies.Done) (after_insert e (Some o) v.post.own) new s h
   places_done e o g list new positive holds entry next some_node guards counted may =
-      let has_g : Contains v.post.own.guards g = subst (λ (z : List Guard). Contains z g) (sym guards) (in_first g []) in
+      let has_g : Contains v.post.own.guards g = subst
+      (λ (z : List Guard). Contains z g) (sym guards) (in_first g []) in
       let is : value (node t.nodes g.node) ≡ value_of list =
-          ap value ((t.tree.guarded.held id v.post g here has_g).counted ∙ counted) in
+      ap value ((t.tree.guarded.held id v.post g here has_g).counted ∙ counted) in
       joining_draw e o g list new positive holds entry next some_node has_g counted
-          (⊎_elim (λ le. inl (omega arith)) (λ root. inr (inl root)) may)
-          (first_recounted g [] (joined list (cell o.number e)) new
-              (drawn_post replies.Done (after_insert e (Some o) v.post.own)) guards
-              (ap (last_joined (cell o.number e)) guards
-                  ∙ ap (λ (z : Node). guard g.node g.stored (joining (cell o.number e) z) ∷ []) counted) refl)
+      (⊎_elim (λ le. inl (omega arith)) (λ root. inr (inl root)) may)
+      (first_recounted g [] (joined list (cell o.number e)) new
+      (drawn_post replies.Done (after_insert e (Some o) v.post.own)) guards
+      (ap (last_joined (cell o.number e)) guards
+      ∙ ap (λ (z : Node). guard g.node g.stored (joining (cell o.number e) z) ∷ []) counted) refl)
 
   -- and under those of a node and of its parent, whose value is not above the entry
   pub places_done_below : (e : Entry) (o : OwnCell) (f g : Guard) (upper list : List Cell) (new : ℕ)
@@ -354,26 +367,15 @@ module _ (k : Limits) (s : Table MoundPart) (h : Holds mound_rule k s) (id : ℕ
       → Places mound_rule k id v (Insert e) (own_mark replies.Done) (after_insert e (Some o) v.post.own) new s h
   places_done_below e o f g upper list new positive holds entry next some_node guards child above under counted =
       let has_f : Contains v.post.own.guards f =
-          subst (λ (z : List Guard). Contains z f) (sym guards) (in_first f (g ∷ [])) in
+      subst (λ (z : List Guard). Contains z f) (sym guards) (in_first f (g ∷ [])) in
       let has_g : Contains v.post.own.guards g =
-          subst (λ (z : List Guard). Contains z g) (sym guards) (in_later f g (g ∷ []) (in_first g [])) in
+      subst (λ (z : List Guard). Contains z g) (sym guards) (in_later f g (g ∷ []) (in_first g [])) in
       let is : value (node t.nodes f.node) ≡ value_of upper =
-          ap value ((t.tree.guarded.held id v.post f here has_f).counted ∙ above) in
+      ap value ((t.tree.guarded.held id v.post f here has_f).counted ∙ above) in
       let same : value (node t.nodes (g.node / 2)) ≡ value (node t.nodes f.node) =
-          ap (λ (z : ℕ). value (node t.nodes z)) child in
+      ap (λ (z : ℕ). value (node t.nodes z)) child in
       joining_draw e o g list new positive holds entry next some_node has_g counted (inr (inr (omega arith)))
-          (second_recounted f g [] (joined list (cell o.number e)) new
-              (drawn_post replies.Done (after_insert e (Some o) v.post.own)) guards
-              (ap (last_joined (cell o.number e)) guards
-                  ∙ ap (λ (z : Node). f ∷ guard g.node g.stored (joining (cell o.number e) z) ∷ []) counted) refl)
-
-module _ (k : Limits) (id : ℕ) (v : View MoundPart) where
-  -- an insert that finds no free cell may answer Full
-  pub may_refuse : (e : Entry) → 0 < v.post.number → Contains v.post.locks cells_lock → v.post.own.free ≡ []
-      → v.post.own.held ≡ None → MayDraw mound_rule k id v (Insert e) 1
-  may_refuse e positive locked none bare = (
-    refl,
-    λ s h at. subst (λ (o : Option OwnCell). Places mound_rule k id v (Insert e) (own_mark (inserted o))
-        (after_insert e o v.post.own) (slice_index s.words 0 + 1) s h) (sym bare)
-        (places_full k s h id v at e (slice_index s.words 0 + 1) positive locked none bare),
-  )
+      (second_recounted f g [] (joined list (cell o.number e)) new
+      (drawn_post replies.Done (after_insert e (Some o) v.post.own)) guards
+      (ap (last_joined (cell o.number e)) guards
+      ∙ ap (λ (z : Node). f ∷ guard g.node g.stored (joining (cell o.number e) z) ∷ []) counted) refl)

@@ -1,12 +1,12 @@
 -- Taking and freeing the cells' lock, and the steps on the words of the free cells, keep the mound's facts.
-use Rattle.std.proofs.Common.{◌≡◌, ◌≢◌, ℕ, ◌+◌, ◌*◌, ◌<◌, ◌≤◌, List, [], ◌∷◌, length, get_or, set, Some, None, inl, inr, ⊎_elim, refl, sym, ap}
+use Rattle.std.proofs.Common.{◌≡◌, ◌≢◌, ℕ, ◌+◌, ◌<◌, ◌≤◌, List, [], ◌∷◌, length, get_or, set, Some, None, inr}
+use Rattle.std.proofs.Common.{⊎_elim, refl, sym, ap}
 use Rattle.std.proofs.Common.{◌∙◌, subst, arith, get_or-set_other, get_or-set_same}
 use Rattle.std.specs.Prelude.{Contains, Option, cond, nat_lt}
 use Rattle.std.proofs.lemmas.Bool.{cases_lt}
 use Rattle.std.proofs.lemmas.Bool.Decides.{nat_tests}
 use mathlib.Core.Option.{some}
 use lib.ListN.{get_elem?}
-use Rattle.std.proofs.lemmas.Nat.{pow_pos}
 use Rattle.atomic_table.proofs.Lists.{at_set}
 use Rattle.pq_model.specs.History.{left}
 use Rattle.pq_seats.specs.declared.views.Limits.{Limits}
@@ -55,7 +55,7 @@ module _ (k : Limits) (s : Table MoundPart) (h : Holds mound_rule k s) (id : ℕ
   lock_named j q to has = let w = at_unmap post_of s.views j q to in
       let number : w.0.post.number ≡ q.number = ap (λ (z : Post MoundPart). z.number) w.2 in
       let held = (h.each j w.0 w.1).held cells_lock
-          (subst (λ (z : Post MoundPart). Contains z.locks cells_lock) (sym w.2) has) in
+      (subst (λ (z : Post MoundPart). Contains z.locks cells_lock) (sym w.2) has) in
       let word = held.1 in let some_number = held.2 in (word ∙ number, λ z. some_number (number ∙ z))
 
   -- and is alone in that
@@ -76,10 +76,10 @@ module _ (k : Limits) (s : Table MoundPart) (h : Holds mound_rule k s) (id : ℕ
       → MoundTied k (set s.words i x) (set qs id p') (left h.history)
   low_step i x far low p' free guards more fewer facts cells alone =
       steps k s h id v at i x (omega arith) p' free t.nodes (left h.history) (inr (omega arith)) (λ e. omega arith)
-          (λ n lt e. absurd (omega arith)) refl
-          (frame_keeps mound_nodes s.words qs t.nodes t.tree id v.post here (set s.words i x) p'
-              (same_locks s.words i x low) (same_words s.words i x low) guards more fewer)
-          facts t.linked cells alone
+      (λ n lt e. absurd (omega arith)) refl
+      (frame_keeps mound_nodes s.words qs t.nodes t.tree id v.post here (set s.words i x) p'
+      (same_locks s.words i x low) (same_words s.words i x low) guards more fewer)
+      facts t.linked cells alone
 
   -- and holds the cell that it held
   steady_step : (i x : ℕ) → 20 < i → i < 32 → (p' : Post MoundPart) → p'.own.guards ≡ v.post.own.guards
@@ -90,9 +90,9 @@ module _ (k : Limits) (s : Table MoundPart) (h : Holds mound_rule k s) (id : ℕ
       → MoundTied k (set s.words i x) (set qs id p') (left h.history)
   steady_step i x far low p' guards held flight owed more fewer cells =
       low_step i x far low p' t.free guards more fewer
-          (subst (λ (z : List ℕ). MoundFacts k.capacity t.free z t.nodes (left h.history))
-              (sym (held_same qs id v.post p' here (ap held_number held))) t.facts)
-          cells (alone_stays k s h id v at p' flight owed held)
+      (subst (λ (z : List ℕ). MoundFacts k.capacity t.free z t.nodes (left h.history))
+      (sym (held_same qs id v.post p' here (ap held_number held))) t.facts)
+      cells (alone_stays k s h id v at p' flight owed held)
 
   -- The count is stored, under the cells' lock
   pub stores_count : (x : ℕ) → Contains v.post.locks cells_lock
@@ -101,15 +101,18 @@ module _ (k : Limits) (s : Table MoundPart) (h : Holds mound_rule k s) (id : ℕ
       let f = t.cells in let mine = f.named id v.post here locked in
       let at_count : get_or (set s.words 26 x) 26 0 ≡ x = get_or-set_same s.words 26 x 0 (omega arith) in
       let named = lock_named id v.post here locked in
-      steady_step count_word x (omega arith) (omega arith) p' refl refl refl refl (λ n has. has) (λ n has. has) (record {
+      steady_step count_word x (omega arith) (omega arith) p' refl refl refl refl (λ n has. has)
+      (λ n has. has) (record {
         chained = subst (λ (g : ℕ → ℕ). IsChain g t.free 0)
             (sym (nexts_stay k.capacity s.words count_word x (omega arith))) f.chained;
         starts = get_or-set_other s.words 26 25 x 0 (λ e. omega arith) ∙ f.starts;
         counted = λ z. let same = get_or-set_other s.words 26 24 x 0 (λ e. omega arith) in
             absurd (named.1 (sym named.0 ∙ (sym same ∙ z)));
         named = λ j q to has. ⊎_elim
-            (λ e. (ap (λ (z : Post MoundPart). z.own.free) (sym e.1) ∙ mine.0,
-                ap (λ (z : Post MoundPart). z.own.count) (sym e.1) ∙ sym at_count))
+            (λ e. (
+              ap (λ (z : Post MoundPart). z.own.free) (sym e.1) ∙ mine.0,
+              ap (λ (z : Post MoundPart). z.own.count) (sym e.1) ∙ sym at_count,
+            ))
             (λ a. absurd (lock_alone j q a.0 a.1 has locked)) (at_set qs id j p' q to);
       })
 
@@ -140,7 +143,7 @@ module _ (k : Limits) (s : Table MoundPart) (h : Holds mound_rule k s) (id : ℕ
       → get_or s.words (next_word k.capacity n) 0 ≡ first_or rest 0
   next_is n rest locked is = let chain : IsChain (nexts_in k.capacity s.words) (n ∷ rest) 0 =
       subst (λ (z : List ℕ). IsChain (nexts_in k.capacity s.words) z 0)
-          (sym (t.cells.named id v.post here locked).0 ∙ is) t.cells.chained in chain.0
+      (sym (t.cells.named id v.post here locked).0 ∙ is) t.cells.chained in chain.0
 
   -- a store to the word that names the first free cell, under the cells' lock, with the free cells that there are then
   free_list : (p' : Post MoundPart) (x : ℕ) (free : List ℕ) → Contains v.post.locks cells_lock → p'.own.free ≡ free
@@ -155,8 +158,10 @@ module _ (k : Limits) (s : Table MoundPart) (h : Holds mound_rule k s) (id : ℕ
         counted = λ z. let lock = get_or-set_other s.words 25 24 x 0 (λ e. omega arith) in
             absurd (named.1 (sym named.0 ∙ (sym lock ∙ z)));
         named = λ j q to has. ⊎_elim
-            (λ e. (ap (λ (z : Post MoundPart). z.own.free) (sym e.1) ∙ same,
-                ap (λ (z : Post MoundPart). z.own.count) (sym e.1) ∙ (count ∙ (mine.1 ∙ sym there))))
+            (λ e. (
+              ap (λ (z : Post MoundPart). z.own.free) (sym e.1) ∙ same,
+              ap (λ (z : Post MoundPart). z.own.count) (sym e.1) ∙ (count ∙ (mine.1 ∙ sym there)),
+            ))
             (λ a. absurd (lock_alone j q a.0 a.1 has locked)) (at_set qs id j p' q to);
       }
 
@@ -169,22 +174,23 @@ module _ (k : Limits) (s : Table MoundPart) (h : Holds mound_rule k s) (id : ℕ
       let p' : Post MoundPart = taking v.post n rest entry x in let mine = t.cells.named id v.post here locked in
       let free : t.free ≡ n ∷ rest = sym mine.0 ∙ is in let a = t.alone id v.post here in
       let chain : IsChain (nexts_in c s.words) (n ∷ rest) 0 =
-          subst (λ (z : List ℕ). IsChain (nexts_in c s.words) z 0) free t.cells.chained in
+      subst (λ (z : List ℕ). IsChain (nexts_in c s.words) z 0) free t.cells.chained in
       low_step free_word x (omega arith) (omega arith) p' rest refl (λ i has. has) (λ i has. has)
-          (event_hands c t.free rest (held_by qs) (held_by (set qs id p')) t.nodes (left h.history) t.facts
-              (λ m. let sums = held_times m qs id v.post p' here in
-              let one : times m t.free ≡ times m (n ∷ rest) = ap (times m) free in
-              let old : times m (held_number v.post.own.held) ≡ times m (held_number None) =
-                  ap (λ (o : Option OwnCell). times m (held_number o)) none in
-              omega (arith, times-cons m n rest, times-cons m n [])))
-          (free_list p' x rest locked refl refl first chain.1)
-          (record {
-            quiet = a.quiet;
-            owes = a.owes;
-            holds = λ o e. let same : own_cell n entry x ≡ o = cc in
-                subst (λ (z : OwnCell). (entries_in c s.words z.number ≡ z.entry) × (nexts_in c s.words z.number ≡ z.next))
-                    same (refl, chain.0 ∙ sym first);
-          })
+      (event_hands c t.free rest (held_by qs) (held_by (set qs id p')) t.nodes (left h.history) t.facts
+      (λ m. let sums = held_times m qs id v.post p' here in
+      let one : times m t.free ≡ times m (n ∷ rest) = ap (times m) free in
+      let old : times m (held_number v.post.own.held) ≡ times m (held_number None) =
+      ap (λ (o : Option OwnCell). times m (held_number o)) none in
+      omega (arith, times-cons m n rest, times-cons m n [])))
+      (free_list p' x rest locked refl refl first chain.1)
+      (record {
+        quiet = a.quiet;
+        owes = a.owes;
+        holds = λ o e. let same : own_cell n entry x ≡ o = cc in
+            subst (λ (z : OwnCell). (entries_in c s.words z.number ≡ z.entry) ×
+            (nexts_in c s.words z.number ≡ z.next))
+            same (refl, chain.0 ∙ sym first);
+      })
 
   -- the cell that the seat holds goes to the front of the free ones, to the first of which it leads
   pub gives : (o : OwnCell) (x : ℕ) → Contains v.post.locks cells_lock → v.post.own.held ≡ Some o
@@ -195,16 +201,16 @@ module _ (k : Limits) (s : Table MoundPart) (h : Holds mound_rule k s) (id : ℕ
       let mine = t.cells.named id v.post here locked in let a = t.alone id v.post here in
       let words = a.holds o is in let long = t.long in
       let chain : IsChain (nexts_in c s.words) v.post.own.free 0 =
-          subst (λ (z : List ℕ). IsChain (nexts_in c s.words) z 0) (sym mine.0) t.cells.chained in
+      subst (λ (z : List ℕ). IsChain (nexts_in c s.words) z 0) (sym mine.0) t.cells.chained in
       low_step free_word x (omega arith) (omega arith) p' free refl (λ i has. has) (λ i has. has)
-          (event_hands c t.free free (held_by qs) (held_by (set qs id p')) t.nodes (left h.history) t.facts
-              (λ m. let sums = held_times m qs id v.post p' here in
-              let one : times m v.post.own.free ≡ times m t.free = ap (times m) mine.0 in
-              let old : times m (held_number v.post.own.held) ≡ times m (held_number (Some o)) =
-                  ap (λ (z : Option OwnCell). times m (held_number z)) is in
-              omega (arith, times-cons m n v.post.own.free, times-cons m n [])))
-          (free_list p' x free locked refl refl named (words.1 ∙ next, chain))
-          (record { quiet = a.quiet; owes = a.owes; holds = λ z e. absurd (cc) })
+      (event_hands c t.free free (held_by qs) (held_by (set qs id p')) t.nodes (left h.history) t.facts
+      (λ m. let sums = held_times m qs id v.post p' here in
+      let one : times m v.post.own.free ≡ times m t.free = ap (times m) mine.0 in
+      let old : times m (held_number v.post.own.held) ≡ times m (held_number (Some o)) =
+      ap (λ (z : Option OwnCell). times m (held_number z)) is in
+      omega (arith, times-cons m n v.post.own.free, times-cons m n [])))
+      (free_list p' x free locked refl refl named (words.1 ∙ next, chain))
+      (record { quiet = a.quiet; owes = a.owes; holds = λ z e. absurd (cc) })
 
 module _ (k : Limits) (id : ℕ) (v : View MoundPart) where
   -- any seat with a number may take the cells' lock
@@ -230,8 +236,10 @@ module _ (k : Limits) (id : ℕ) (v : View MoundPart) where
               starts = first ∙ f.starts;
               counted = λ z. absurd (omega arith);
               named = λ j q to has. ⊎_elim
-                  (λ e. (ap (λ (z : Post MoundPart). z.own.free) (sym e.1),
-                      ap (λ (z : Post MoundPart). z.own.count) (sym e.1) ∙ (sym number_of_words ∙ sym there)))
+                  (λ e. (
+                    ap (λ (z : Post MoundPart). z.own.free) (sym e.1),
+                    ap (λ (z : Post MoundPart). z.own.count) (sym e.1) ∙ (sym number_of_words ∙ sym there),
+                  ))
                   (λ a. let r = lock_named k s h id w at j q a.1 has in absurd (r.1 (sym r.0 ∙ zero_word)))
                   (at_set (ps k s h id w at) id j p' q to);
             }),
@@ -246,16 +254,16 @@ module _ (k : Limits) (id : ℕ) (v : View MoundPart) where
       let there = get_or-set_other s.words 24 26 0 0 (λ e. omega arith) in
       let first = get_or-set_other s.words 24 25 0 0 (λ e. omega arith) in
       steady_step k s h id v at cells_lock 0 (omega arith) (omega arith) p' refl refl refl refl
-          (λ i has. has_less 24 v.post.locks (lock_of i) has (λ e. omega arith))
-          (λ i has. (less_has 24 v.post.locks (lock_of i) has).0)
-          (record {
-            chained = subst (λ (g : ℕ → ℕ). IsChain g t.free 0)
-                (sym (nexts_stay k.capacity s.words cells_lock 0 (omega arith))) f.chained;
-            starts = first ∙ f.starts;
-            counted = λ z. there ∙ (sym mine.1 ∙ (same ∙ ap (λ (l : List ℕ). length l) mine.0));
-            named = λ j q to has. ⊎_elim
-                (λ e. absurd ((less_has 24 v.post.locks 24
-                    (subst (λ (z : Post MoundPart). Contains z.locks cells_lock) (sym e.1) has)).1 refl))
-                (λ a. absurd (lock_alone k s h id v at j q a.0 a.1 has locked))
-                (at_set (ps k s h id v at) id j p' q to);
-          })
+      (λ i has. has_less 24 v.post.locks (lock_of i) has (λ e. omega arith))
+      (λ i has. (less_has 24 v.post.locks (lock_of i) has).0)
+      (record {
+        chained = subst (λ (g : ℕ → ℕ). IsChain g t.free 0)
+            (sym (nexts_stay k.capacity s.words cells_lock 0 (omega arith))) f.chained;
+        starts = first ∙ f.starts;
+        counted = λ z. there ∙ (sym mine.1 ∙ (same ∙ ap (λ (l : List ℕ). length l) mine.0));
+        named = λ j q to has. ⊎_elim
+            (λ e. absurd ((less_has 24 v.post.locks 24
+            (subst (λ (z : Post MoundPart). Contains z.locks cells_lock) (sym e.1) has)).1 refl))
+            (λ a. absurd (lock_alone k s h id v at j q a.0 a.1 has locked))
+            (at_set (ps k s h id v at) id j p' q to);
+      })

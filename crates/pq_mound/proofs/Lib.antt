@@ -11,3 +11,4 @@ pub mod Moves
 pub mod Picking
 pub mod CellStores
 pub mod Draws
+pub mod MayDraw

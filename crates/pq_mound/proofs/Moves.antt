@@ -85,7 +85,8 @@ module _ (k : Limits) (slots id : ℕ) (me : Me (Unit {0}) (View MoundPart)) whe
       → Allows (Holds mound_rule k) slots id me free_word (λ _. x)
       (λ _. steps.takes_off (step slots free_word x 0 none) me x)
   may_take_off n x rest seated locked is bare first s h sized at small = let v = me.0 in
-      let entry : ℕ = entries_in k.capacity s.words n in let p : Post MoundPart = steps.taking v.post n rest entry x in (
+      let entry : ℕ = entries_in k.capacity s.words n in
+      let p : Post MoundPart = steps.taking v.post n rest entry x in (
         with_post v p,
         keeps,
         tt,
@@ -119,7 +120,8 @@ module _ (k : Limits) (slots id : ℕ) (me : Me (Unit {0}) (View MoundPart)) whe
     where
       same_giving : (v : View MoundPart) (o q : OwnCell) → Some o ≡ Some q
           → with_part v (steps.giving v.post o.number) ≡ with_part v (steps.giving v.post q.number)
-      same_giving v o q e = let same : o ≡ q = cc in ap (λ (z : OwnCell). with_part v (steps.giving v.post z.number)) same
+      same_giving v o q e = let same : o ≡ q = cc in
+          ap (λ (z : OwnCell). with_part v (steps.giving v.post z.number)) same
 
   -- a store to a word of the cell that the seat holds
   pub may_store_next : (o : OwnCell) (x : ℕ) → me.0.post.number ≢ 0 → me.0.post.own.held ≡ Some o

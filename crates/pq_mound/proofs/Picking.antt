@@ -19,5 +19,5 @@ pub picked_view : (v w x y : View MoundPart) (cell entry next count n : ℕ) (re
     → y ≡ with_post v (counting (taking v.post cell rest entry next) n)
 picked_view v w x y cell entry next count n rest same taken stored is =
     stored ∙ (ap (λ (z : View MoundPart). with_post z (counting z.post count))
-        (taken ∙ ap (λ (z : View MoundPart). with_post z (taking z.post cell rest entry next)) same)
+    (taken ∙ ap (λ (z : View MoundPart). with_post z (taking z.post cell rest entry next)) same)
     ∙ ap (λ (m : ℕ). with_post v (counting (taking v.post cell rest entry next) m)) is)

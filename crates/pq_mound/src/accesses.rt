@@ -138,7 +138,13 @@ pub(crate) fn store_next(table: &MoundTable, pass: &mut TablePass, base: u32, ce
 }
 
 /// Writes an entry into the cell that the seat holds.
-pub(crate) fn store_entry(table: &MoundTable, pass: &mut TablePass, base: u32, cell: u32, entry: Entry)
+pub(crate) fn store_entry(
+    table: &MoundTable,
+    pass: &mut TablePass,
+    base: u32,
+    cell: u32,
+    entry: Entry,
+)
     requires table { IsMoundTable table.now }
     requires own { Belongs table.now pass.old }
     requires holds { (o : OwnCell) × ((view_of pass.old).post.own.held ≡ Some o) × (o.number ≡ cell) }
@@ -149,8 +155,9 @@ pub(crate) fn store_entry(table: &MoundTable, pass: &mut TablePass, base: u32, c
     ensures view { (o : OwnCell) → (view_of pass.old).post.own.held ≡ Some o → view_of pass.new ≡
         with_post (view_of pass.old) (keeping (view_of pass.old).post o.number (raw_of entry) o.next) }
 {
-    table
-        .table
-        .shared
-        .store::<StoreEntry>(&mut pass.seat, entry_word(base, cell) as usize, entry.raw());
+    table.table.shared.store::<StoreEntry>(
+        &mut pass.seat,
+        entry_word(base, cell) as usize,
+        entry.raw(),
+    );
 }

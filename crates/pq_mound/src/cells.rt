@@ -17,8 +17,8 @@ use crate::locks::{free_cells, take_cells};
 use crate::rule::{MoundTable, TablePass};
 use std::sync::Wait;
 
-/// Takes the first free cell, or none where none is free, by a seat that holds the cells' lock and no cell. The words of
-/// the cells begin at this base.
+/// Takes the first free cell, or none where none is free, by a seat that holds the cells' lock and no cell. The words
+/// of the cells begin at this base.
 pub(crate) fn pick(table: &MoundTable, pass: &mut TablePass, base: u32) -> Option<u32>
     requires table { IsMoundTable table.now }
     requires own { Belongs table.now pass.old }
@@ -46,7 +46,13 @@ pub(crate) fn pick(table: &MoundTable, pass: &mut TablePass, base: u32) -> Optio
 }
 
 /// Gives the cell that the seat holds back. The seat holds nothing then. The words of the cells begin at this base.
-pub(crate) fn give_back<W: Wait>(table: &MoundTable, rt: &W, pass: &mut TablePass, base: u32, cell: u32)
+pub(crate) fn give_back<W: Wait>(
+    table: &MoundTable,
+    rt: &W,
+    pass: &mut TablePass,
+    base: u32,
+    cell: u32,
+)
     requires table { IsMoundTable table.now }
     requires own { Belongs table.now pass.old }
     requires holds { (o : OwnCell) × ((view_of pass.old).post ≡ with_cell pass.old.number o) × (o.number ≡ cell) }

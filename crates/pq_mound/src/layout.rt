@@ -1,5 +1,5 @@
-//! Where the mound's words lie in its table: before the nodes the depth, and the cells' lock with what it guards; behind
-//! the nodes the cells.
+//! Where the mound's words lie in its table: before the nodes the cells' lock with what it guards, behind them the
+//! cells.
 ghost use Rattle.std.specs.Prelude.{◌≡◌, ◌+◌, ◌*◌, ◌<◌, ◌≤◌};
 ghost use Rattle.pq_model.specs.Limits.{max_capacity};
 ghost use Rattle.pq_mound.specs.Layout as layout;

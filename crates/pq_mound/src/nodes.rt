@@ -15,7 +15,7 @@ pub enum Node {
     Resting(LinkedList<Cell>),
     /// The node is the hole of a remover, and this its list.
     Hole(LinkedList<Cell>),
-    /// An insert has its place, and its cell counts between these cells before it and these behind it. The last of those
-    /// before does not yet lead to it.
+    /// An insert has its place, and its cell counts between these cells before it and these behind it. The last of
+    /// those before does not yet lead to it.
     Joining(LinkedList<Cell>, Cell, LinkedList<Cell>),
 }

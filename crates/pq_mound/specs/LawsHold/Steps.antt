@@ -29,7 +29,8 @@ use Rattle.pq_mound.specs.Ties.{entries_in, nexts_in, held_by, IsFreeList, AreRa
 use Rattle.pq_mound.specs.Rules.{mound_rule}
 
 -- the words of the cells are as they were
-pub entries_stay : (c : ℕ) (words : List ℕ) (i x : ℕ) → i < cell_base c → entries_in c (set words i x) ≡ entries_in c words
+pub entries_stay : (c : ℕ) (words : List ℕ) (i x : ℕ) → i < cell_base c
+    → entries_in c (set words i x) ≡ entries_in c words
 entries_stay c words i x low = λ j k. get_or-set_other words i (entry_word c k) x 0 (λ e. omega arith) j
 
 pub nexts_stay : (c : ℕ) (words : List ℕ) (i x : ℕ) → i < cell_base c → nexts_in c (set words i x) ≡ nexts_in c words

@@ -1,4 +1,4 @@
-use Rattle.std.proofs.Common.{◌≡◌, ℕ, sym, subst, arith}
+use Rattle.std.proofs.Common.{◌≡◌, ℕ, subst, arith}
 use Rattle.atomic_table.specs.Table.{step, Allows}
 use mathlib.Core.Option.{none}
 use Rattle.pq_seats.specs.Rules.{Holds}
@@ -16,7 +16,10 @@ load-requires c =
     let words = c.requires.table.words in let seated = own.seated.0 in let named = own.named in
     let first = c.requires.first in
     let is = c.requires.base.0 in
-    let at : next_word k.capacity c.args.cell ≡ c.next_word.result = omega (arith, c.next_word.ensures) in
-    (own.table, omega arith, subst (λ (z : ℕ). Allows (Holds mound_rule k) slots id me z (λ m. m)
-        (steps.looks_at_next (step slots z 0 0 none) me)) at
-        (may_look_at_next k slots id me c.args.cell first.0 c.requires.held first.1))
+    let at : next_word k.capacity c.args.cell ≡ c.next_word.result = omega (arith, c.next_word.ensures) in (
+      own.table,
+      omega arith,
+      subst (λ (z : ℕ). Allows (Holds mound_rule k) slots id me z (λ m. m)
+          (steps.looks_at_next (step slots z 0 0 none) me)) at
+          (may_look_at_next k slots id me c.args.cell first.0 c.requires.held first.1),
+    )

@@ -16,7 +16,11 @@ store-requires c =
     let words = c.requires.table.words in let seated = own.seated.0 in let named = own.named in
     let holds = c.requires.holds in let o = holds.0 in let number = holds.2 in let base = c.requires.base.0 in
     let low = c.requires.cell in
-    let at : entry_word k.capacity o.number ≡ c.entry_word.result = omega (arith, c.entry_word.ensures) in
-    (own.table, omega arith, subst (λ (z : ℕ). Allows (Holds mound_rule k) slots id me z (λ _. c.raw.result)
-        (λ _. steps.stores_entry (step slots z (c.raw.result) 0 none) me (c.raw.result))) at
-        (may_store_entry k slots id me o (c.raw.result) (λ z. omega arith) holds.1 (let small = c.raw.ensures.below in omega arith)))
+    let at : entry_word k.capacity o.number ≡ c.entry_word.result = omega (arith, c.entry_word.ensures) in (
+      own.table,
+      omega arith,
+      subst (λ (z : ℕ). Allows (Holds mound_rule k) slots id me z (λ _. c.raw.result)
+          (λ _. steps.stores_entry (step slots z (c.raw.result) 0 none) me (c.raw.result))) at
+          (may_store_entry k slots id me o (c.raw.result)
+          (λ z. omega arith) holds.1 (let small = c.raw.ensures.below in omega arith)),
+    )

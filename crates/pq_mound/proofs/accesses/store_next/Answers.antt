@@ -16,7 +16,10 @@ store-requires c =
     let words = c.requires.table.words in let seated = own.seated.0 in let named = own.named in
     let holds = c.requires.holds in let o = holds.0 in let number = holds.2 in let base = c.requires.base.0 in
     let low = c.requires.cell in
-    let at : next_word k.capacity o.number ≡ c.next_word.result = omega (arith, c.next_word.ensures) in
-    (own.table, omega arith, subst (λ (z : ℕ). Allows (Holds mound_rule k) slots id me z (λ _. c.args.next)
-        (λ _. steps.stores_next (step slots z (c.args.next) 0 none) me (c.args.next))) at
-        (may_store_next k slots id me o (c.args.next) (λ z. omega arith) holds.1))
+    let at : next_word k.capacity o.number ≡ c.next_word.result = omega (arith, c.next_word.ensures) in (
+      own.table,
+      omega arith,
+      subst (λ (z : ℕ). Allows (Holds mound_rule k) slots id me z (λ _. c.args.next)
+          (λ _. steps.stores_next (step slots z (c.args.next) 0 none) me (c.args.next))) at
+          (may_store_next k slots id me o (c.args.next) (λ z. omega arith) holds.1),
+    )

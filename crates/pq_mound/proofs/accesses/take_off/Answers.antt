@@ -8,6 +8,9 @@ store-requires c =
     let id = c.args.pass.now.seat.id in let own = c.requires.own in
     let slots = c.args.table.now.table.shared.table_id.slots in let size = c.args.table.now.sized.0 in
     let words = c.requires.table.words in let seated = own.seated.0 in let named = own.named in
-    let first = c.requires.first in
-    (own.table, omega arith, may_take_off k slots id me c.args.cell c.args.next first.0 (λ z. omega arith)
-        c.requires.held first.1 c.requires.bare first.2)
+    let first = c.requires.first in (
+      own.table,
+      omega arith,
+      may_take_off k slots id me c.args.cell c.args.next first.0 (λ z. omega arith)
+          c.requires.held first.1 c.requires.bare first.2,
+    )
