@@ -12,3 +12,5 @@ pub mod Offers
 pub mod Rules
 pub mod Stays
 pub mod LawsHold
+pub mod Steps
+pub mod Laws

@@ -1,8 +1,10 @@
 //! The queue of chunks: its entries stand in chunks of 64 places. Inserts and removals draw places by addition.
 #![tactic(auto)]
 
+mod laws;
 mod rule;
 mod views;
 
+pub use laws::{claims_keep, front_arms_keep, front_loads_keep};
 pub use rule::ChunkRule;
 pub use views::{BuilderView, ChunkView, FrontView, Reading, Stage};

@@ -1,0 +1,6 @@
+-- How the steps keep the rule.
+pub mod Fields
+pub mod Lives
+pub mod Counting
+pub mod FrontSteps
+
