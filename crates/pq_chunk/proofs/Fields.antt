@@ -1,5 +1,5 @@
 -- The fields of a front, read off its number.
-use Rattle.std.proofs.Common.{◌≡◌, ℕ, ◌+◌, ◌-◌, ◌*◌, ◌/◌, ◌%◌, ◌<◌, ◌≤◌, ◌^◌, sym, refl, ◌∙◌, arith}
+use Rattle.std.proofs.Common.{◌≡◌, ℕ, ◌-◌, ◌/◌, ◌%◌, sym, refl, ◌∙◌, arith}
 use Rattle.pq_words.specs.declared.fronts.Front.{Front}
 use Rattle.pq_words.specs.Fronts.{FitsFront, front_number, here}
 use Rattle.pq_chunk.specs.Rules.{length_in}

@@ -1,39 +1,37 @@
 -- The steps on the front word that mark nothing.
-use Rattle.std.proofs.Common.{◌≡◌, ◌≢◌, ◌⊎◌, Option, Some, None, ℕ, zero, suc, ◌+◌, ◌-◌, ◌*◌, ◌/◌, ◌%◌, ◌^◌, ◌<◌, ◌≤◌, Bool, true, false, cond, List, [], ◌∷◌, map, length, get_or, set, sym, refl, ap, ◌∙◌, subst, inl, inr, ⊎_elim, arith, sum_by, Contains, get_or-set_same, get_or-set_other}
+use Rattle.std.proofs.Common.{◌≡◌, Some, ℕ, ◌+◌, ◌-◌, ◌≤◌, Bool, true, false, cond, List, map, length, get_or, set, sym, refl, ap, ◌∙◌, subst, inl, inr, arith, sum_by, Contains, get_or-set_same, get_or-set_other}
 use mathlib.Core.Option.{some}
 use lib.ListN.{get_elem?}
 use Rattle.atomic_table.proofs.Lists.{at_map}
 use Rattle.pq_words.specs.declared.entries.Entry.{Entry}
 use Rattle.pq_words.specs.declared.fronts.Front.{Front}
 use Rattle.pq_words.specs.Fronts.{FitsFront, front_number, here, used_of}
-use Rattle.pq_model.specs.History.{IsSeat, left}
+use Rattle.pq_model.specs.History.{left}
 use Rattle.pq_seats.specs.declared.views.Limits.{Limits}
 use Rattle.pq_seats.specs.declared.views.Post.{Post}
 use Rattle.pq_seats.specs.declared.views.View.{View}
 use Rattle.pq_seats.specs.Views.{post_of, with_post}
-use Rattle.pq_seats.specs.Rules.{Table, Holds, Stands}
+use Rattle.pq_seats.specs.Rules.{Table}
 use Rattle.pq_seats.specs.Allowed.{IsOwnChange}
-use Rattle.pq_seats.specs.Laws.{stepped_to}
-use Rattle.pq_seats.proofs.Lists.{sum_set, sum_kept, sum_one}
+use Rattle.pq_seats.proofs.Lists.{sum_set, sum_kept}
 use Rattle.pq_seats.proofs.Owning.{front_stays}
 use Rattle.pq_pool.specs.declared.views.PoolView.{PoolView}
 use Rattle.pq_pool.specs.Facts.{PoolFacts}
 use Rattle.pq_pool.specs.FactsStay.Framing.{seat_stays, seat_stays-counted}
 use Rattle.pq_chunk.specs.declared.views.ChunkView.{ChunkView}
 use Rattle.pq_chunk.specs.declared.views.Stage.{Stage}
-use Rattle.pq_chunk.specs.declared.views.Stage.TheVariants.{Idle}
-use Rattle.pq_chunk.specs.Views.{pool_of, one_for, claim_of, armed_of, armed_for, armed_stage, stage_weight, marked_weight, is_offered, IsOn}
+use Rattle.pq_chunk.specs.Views.{pool_of, one_for, claim_of, armed_of, armed_for, armed_stage, stage_weight, is_offered}
 use Rattle.pq_chunk.specs.Stages.{IsStaged, IsStage}
 use Rattle.pq_chunk.specs.Contents.{ContentFacts}
 use Rattle.pq_chunk.specs.Rules.{chunk_rule, ChunkTied, length_in}
 use Rattle.pq_chunk.specs.LawsHold.{chunk_lawful, are_seats}
-use Rattle.pq_chunk.specs.Steps.{with_own, with_view, more_claimed, less_remaining, front_read, front_seen, claimed}
-use Rattle.pq_chunk.specs.Laws.{Moment, FrontIs, Keeps, WordIs, FrontLoadsKeep, FrontArmsKeep, ClaimsKeep, DryDrawsKeep}
+use Rattle.pq_chunk.specs.Steps.{with_own, with_view, more_claimed, front_read, front_seen, claimed}
+use Rattle.pq_chunk.specs.Laws.{Moment, FrontIs, Keeps, FrontLoadsKeep, FrontArmsKeep, ClaimsKeep}
 use Rattle.pq_chunk.specs.Stays.Fronts.{front_step, told_stays}
 use Rattle.pq_chunk.specs.Stays.Placing.{staged_stays, same_post, KeepsPost}
 use Rattle.pq_chunk.specs.Stays.Filling.{content_post}
 use Rattle.pq_chunk.specs.Stays.Offering.{offers_kept}
-use Rattle.pq_chunk.specs.Stays.Whole.{low_tied, low_offers, same_words, AreSeats}
+use Rattle.pq_chunk.specs.Stays.Whole.{low_tied, low_offers, AreSeats}
 use Rattle.pq_chunk.proofs.Fields.{one_front, length_front}
 use Rattle.pq_chunk.proofs.Counting.{at_most_one, few_of_seats}
 

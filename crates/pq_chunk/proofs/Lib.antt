@@ -3,4 +3,4 @@ pub mod Fields
 pub mod Lives
 pub mod Counting
 pub mod FrontSteps
-
+pub mod Draws

@@ -1,5 +1,5 @@
 -- The chunks of the chain are live.
-use Rattle.std.proofs.Common.{◌≡◌, ◌≢◌, ◌⊎◌, ℕ, zero, suc, ◌+◌, ◌<◌, ◌≤◌, eqb, cond, Bool, true, false, List, [], ◌∷◌, length, get_or, sym, refl, ap, ◌∙◌, subst, inl, inr, ⊎_elim, arith, eq-eqb, ne_eqb, Contains, sum_by}
+use Rattle.std.proofs.Common.{◌≡◌, ◌≢◌, ℕ, zero, suc, ◌+◌, ◌<◌, ◌≤◌, eqb, cond, Bool, true, false, List, [], ◌∷◌, length, get_or, refl, ap, ◌∙◌, subst, ⊎_elim, arith, Contains}
 use Rattle.std.proofs.lemmas.Bool.Decides.{eqb_tells}
 use Rattle.std.proofs.lemmas.List.Sums.{sum_by-cons}
 use native.Mathlib.Decide.{ℕ_discrete}
@@ -9,7 +9,7 @@ use Rattle.pq_seats.proofs.Lists.{in_cases, in_first, in_later, not_in, test_sam
 use Rattle.pq_pool.specs.declared.views.PoolState.{PoolState}
 use Rattle.pq_pool.specs.States.{state_of}
 use Rattle.pq_chunk.specs.declared.views.ChunkView.{ChunkView}
-use Rattle.pq_chunk.specs.Views.{times, outside_of}
+use Rattle.pq_chunk.specs.Views.{times}
 use Rattle.pq_chunk.specs.Chain.{ChainFacts, Replaced, live_one}
 
 pub times-cons : (c x : ℕ) (l : List ℕ) → times c (x ∷ l) ≡ cond (eqb x c) 1 0 + times c l

@@ -1,14 +1,13 @@
 -- What keeps the rule: each step of an insert and of a removal, in each state in which the whole rule holds.
-use Rattle.std.specs.Prelude.{◌≡◌, ℕ, ◌+◌, ◌-◌, ◌<◌, ◌≤◌, true, false, Some, None, length, slice_index}
-use Rattle.pq_words.specs.Limits.{total_limit, dry_at}
+use Rattle.std.specs.Prelude.{◌≡◌, ℕ, ◌-◌, ◌<◌, ◌≤◌, true, false, Some, None, length, slice_index}
+use Rattle.pq_words.specs.Limits.{dry_at}
 use Rattle.pq_words.specs.declared.entries.Entry.{Entry}
 use Rattle.pq_words.specs.declared.place_words.PlaceWord.TheVariants.{In}
 use Rattle.pq_words.specs.declared.fronts.Front.{Front}
-use Rattle.pq_words.specs.Entries.{raw_of}
 use Rattle.pq_words.specs.Fronts.{FitsFront, front_number, here, length_of, used_of}
 use Rattle.pq_words.specs.PlaceWords.{place_number}
 use Rattle.pq_model.specs.declared.marks.Act.TheVariants.{Insert, Remove}
-use Rattle.pq_model.specs.declared.marks.Reply.TheVariants.{Done, Got, Full}
+use Rattle.pq_model.specs.declared.marks.Reply.TheVariants.{Got, Full}
 use Rattle.pq_model.specs.History.{left}
 use Rattle.pq_model.specs.Multiset.{least}
 use Rattle.pq_api.specs.Limits.{call_limit}
@@ -19,11 +18,11 @@ use Rattle.pq_seats.specs.Posts.{placed_view}
 use Rattle.pq_seats.specs.Rules.{Table, Holds, Stands}
 use Rattle.pq_seats.specs.Laws.{stepped_to}
 use Rattle.pq_chunk.specs.declared.views.ChunkView.{ChunkView}
-use Rattle.pq_chunk.specs.declared.views.Stage.TheVariants.{Idle, AtFirst, Past, At, Within, Armed, Drawn, Waiting, Marked}
+use Rattle.pq_chunk.specs.declared.views.Stage.TheVariants.{Idle}
 use Rattle.pq_chunk.specs.declared.views.Reading.TheVariants.{Nothing}
-use Rattle.pq_chunk.specs.Layout.{place_count, place_word}
+use Rattle.pq_chunk.specs.Layout.{place_word}
 use Rattle.pq_chunk.specs.Rules.{chunk_rule}
-use Rattle.pq_chunk.specs.Steps.{with_view, more_claimed, more_total, less_remaining, front_read, front_seen, claimed, got_own, done_own, lone}
+use Rattle.pq_chunk.specs.Steps.{with_view, more_claimed, more_total, less_remaining, front_read, front_seen, claimed, got_own, lone}
 
 -- A state of the table in which the rule holds, and a seat with a number whose view is this
 pub record Moment (v : View ChunkView) : Type 0 where
@@ -99,10 +98,3 @@ pub record IsDry {v : View ChunkView} (m : Moment v) (f : Front) : Type 0 where
 abbrev pub DryDrawsKeep : Type 0
 DryDrawsKeep = (v : View ChunkView) (m : Moment v) (f : Front) → FrontIs m f
     → v.post.own.front.armed ≡ true → f.remaining ≤ dry_at → IsDry m f
-
--- *total-up*: Done is the next mark, at the length of the word that was found
-abbrev pub DonesKeep : Type 0
-DonesKeep = (v : View ChunkView) (m : Moment v) (f : Front) (c i : ℕ) (e : Entry) → FrontIs m f
-    → v.post.own.stage ≡ Waiting c i e → HasRoom v
-    → Keeps m 0 (front_number (more_total f))
-    (placed_view v (Insert e) (lone Done) (done_own v.post.own (front_number f) c i e) (length_of f))

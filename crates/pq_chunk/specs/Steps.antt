@@ -1,5 +1,5 @@
 -- What each step of an insert or a removal makes of the seat's view, and of the front word.
-use Rattle.std.specs.Prelude.{ℕ, suc, ◌-◌, Bool, false, Option, Some, None, List, [], ◌∷◌}
+use Rattle.std.specs.Prelude.{ℕ, suc, ◌-◌, Bool, false, Some, [], ◌∷◌}
 use Rattle.pq_words.specs.declared.entries.Entry.{Entry}
 use Rattle.pq_words.specs.declared.fronts.Front.{Front}
 use Rattle.pq_model.specs.declared.marks.Reply.{Reply}
@@ -10,7 +10,7 @@ use Rattle.pq_seats.specs.Batches.{Batch}
 use Rattle.pq_pool.specs.Views.{pinned_on}
 use Rattle.pq_chunk.specs.declared.views.ChunkView.{ChunkView}
 use Rattle.pq_chunk.specs.declared.views.Stage.{Stage}
-use Rattle.pq_chunk.specs.declared.views.Stage.TheVariants.{AtFirst, At, Marked}
+use Rattle.pq_chunk.specs.declared.views.Stage.TheVariants.{Marked}
 use Rattle.pq_chunk.specs.declared.views.Reading.TheVariants.{Nothing, Reads}
 
 abbrev pub with_own : Post ChunkView → ChunkView → Post ChunkView

@@ -1,5 +1,5 @@
 //! Laws of the rule: which steps keep it, in each state in which it holds.
-ghost use Rattle.pq_chunk.specs.Laws.{FrontLoadsKeep, FrontArmsKeep, ClaimsKeep};
+ghost use Rattle.pq_chunk.specs.Laws.{FrontLoadsKeep, FrontArmsKeep, ClaimsKeep, FullsKeep, DrawsKeep, DryDrawsKeep};
 
 /// Law: a load of the front word keeps the rule, and so does an exchange of it that lost.
 pub fn front_loads_keep()
@@ -15,4 +15,22 @@ pub fn front_arms_keep()
 /// Law: so does a claim where less is used than the capacity. What is used never passes the capacity.
 pub fn claims_keep()
     ensures { ClaimsKeep }
+{}
+
+/// Law: so does Full where as much is used as the capacity. It is the next mark, at the length of the word: the claims
+/// of others are fewer than the seats, so fewer places are free than there are seats.
+pub fn fulls_keep()
+    ensures { FullsKeep }
+{}
+
+/// Law: so does a draw by a seat that is armed and pinned, where an entry is left. Got is the next mark, at the length of
+/// the word that was found, and its entry is the least. It stands at the last place of the first chunk that was left,
+/// and the seat stands on that chunk.
+pub fn draws_keep()
+    ensures { DrawsKeep }
+{}
+
+/// Law: so does a draw by an armed seat where none is left. It marks nothing, and what remains does not fall below 0.
+pub fn dry_draws_keep()
+    ensures { DryDrawsKeep }
 {}
