@@ -4,3 +4,4 @@ pub mod Lives
 pub mod Counting
 pub mod FrontSteps
 pub mod Draws
+pub mod Starting

@@ -14,3 +14,4 @@ pub mod Stays
 pub mod LawsHold
 pub mod Steps
 pub mod Laws
+pub mod Opening

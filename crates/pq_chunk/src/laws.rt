@@ -1,5 +1,6 @@
 //! Laws of the rule: which steps keep it, in each state in which it holds.
 ghost use Rattle.pq_chunk.specs.Laws.{FrontLoadsKeep, FrontArmsKeep, ClaimsKeep, FullsKeep, DrawsKeep, DryDrawsKeep};
+ghost use Rattle.pq_chunk.specs.Opening.{FreshWordsOpen, TotalsFit};
 
 /// Law: a load of the front word keeps the rule, and so does an exchange of it that lost.
 pub fn front_loads_keep()
@@ -33,4 +34,15 @@ pub fn draws_keep()
 /// Law: so does a draw by an armed seat where none is left. It marks nothing, and what remains does not fall below 0.
 pub fn dry_draws_keep()
     ensures { DryDrawsKeep }
+{}
+
+/// Law: the words of a fresh queue meet the facts of the rule, with no entry and one seat that has nothing.
+pub fn fresh_words_open()
+    ensures { FreshWordsOpen }
+{}
+
+/// Law: between any two steps the total of the front word is at most 536,870,960, which is below 2^30. A history has at
+/// most 536,870,896 marks, and at most 64 entries are left in the first chunk.
+pub fn totals_fit()
+    ensures { TotalsFit }
 {}
