@@ -5,3 +5,4 @@ pub mod Counting
 pub mod FrontSteps
 pub mod Draws
 pub mod Starting
+pub mod Walking

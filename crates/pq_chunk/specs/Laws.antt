@@ -4,6 +4,7 @@ use Rattle.pq_words.specs.Limits.{dry_at}
 use Rattle.pq_words.specs.declared.entries.Entry.{Entry}
 use Rattle.pq_words.specs.declared.place_words.PlaceWord.TheVariants.{In}
 use Rattle.pq_words.specs.declared.fronts.Front.{Front}
+use Rattle.pq_words.specs.Entries.{raw_of}
 use Rattle.pq_words.specs.Fronts.{FitsFront, front_number, here, length_of, used_of}
 use Rattle.pq_words.specs.PlaceWords.{place_number}
 use Rattle.pq_model.specs.declared.marks.Act.TheVariants.{Insert, Remove}
@@ -18,11 +19,11 @@ use Rattle.pq_seats.specs.Posts.{placed_view}
 use Rattle.pq_seats.specs.Rules.{Table, Holds, Stands}
 use Rattle.pq_seats.specs.Laws.{stepped_to}
 use Rattle.pq_chunk.specs.declared.views.ChunkView.{ChunkView}
-use Rattle.pq_chunk.specs.declared.views.Stage.TheVariants.{Idle}
+use Rattle.pq_chunk.specs.declared.views.Stage.TheVariants.{Idle, At, Within, Armed}
 use Rattle.pq_chunk.specs.declared.views.Reading.TheVariants.{Nothing}
-use Rattle.pq_chunk.specs.Layout.{place_word}
+use Rattle.pq_chunk.specs.Layout.{place_count, place_word, count_word, high_word}
 use Rattle.pq_chunk.specs.Rules.{chunk_rule}
-use Rattle.pq_chunk.specs.Steps.{with_view, more_claimed, more_total, less_remaining, front_read, front_seen, claimed, got_own, lone}
+use Rattle.pq_chunk.specs.Steps.{with_view, more_claimed, more_total, less_remaining, front_read, front_seen, staged, claimed, got_own, lone}
 
 -- A state of the table in which the rule holds, and a seat with a number whose view is this
 pub record Moment (v : View ChunkView) : Type 0 where
@@ -98,3 +99,15 @@ pub record IsDry {v : View ChunkView} (m : Moment v) (f : Front) : Type 0 where
 abbrev pub DryDrawsKeep : Type 0
 DryDrawsKeep = (v : View ChunkView) (m : Moment v) (f : Front) → FrontIs m f
     → v.post.own.front.armed ≡ true → f.remaining ≤ dry_at → IsDry m f
+
+-- *load-chunk-word* of the high of the insert chunk that an insert has come to: the entry is within its bounds
+abbrev pub WithinKeeps : Type 0
+WithinKeeps = (v : View ChunkView) (m : Moment v) (c : ℕ) (e : Entry) (high : ℕ) → WordIs m (high_word c) high
+    → v.post.own.stage ≡ At c e → raw_of e ≤ high
+    → Keeps m (high_word c) high (with_view v (staged v.post.own (Within c e)))
+
+-- *load-chunk-word* of its count, which shows a place left: the seat is armed for the count
+abbrev pub CountArmsKeep : Type 0
+CountArmsKeep = (v : View ChunkView) (m : Moment v) (c : ℕ) (e : Entry) (count : ℕ) → WordIs m (count_word c) count
+    → v.post.own.stage ≡ Within c e → count < place_count
+    → Keeps m (count_word c) count (with_view v (staged v.post.own (Armed c e)))

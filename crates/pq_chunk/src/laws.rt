@@ -1,5 +1,6 @@
 //! Laws of the rule: which steps keep it, in each state in which it holds.
 ghost use Rattle.pq_chunk.specs.Laws.{FrontLoadsKeep, FrontArmsKeep, ClaimsKeep, FullsKeep, DrawsKeep, DryDrawsKeep};
+ghost use Rattle.pq_chunk.specs.Laws.{WithinKeeps, CountArmsKeep};
 ghost use Rattle.pq_chunk.specs.Opening.{FreshWordsOpen, TotalsFit};
 
 /// Law: a load of the front word keeps the rule, and so does an exchange of it that lost.
@@ -45,4 +46,16 @@ pub fn fresh_words_open()
 /// most 536,870,896 marks, and at most 64 entries are left in the first chunk.
 pub fn totals_fit()
     ensures { TotalsFit }
+{}
+
+/// Law: a load of the high of the insert chunk that an insert has come to keeps the rule. Where it is not below the entry,
+/// the entry is within the chunk's bounds.
+pub fn within_keeps()
+    ensures { WithinKeeps }
+{}
+
+/// Law: so does a load of that chunk's count that shows a place left: the seat is armed for the count. The count and the
+/// seats that are armed for it are at most 80 together, since the seats are at most 16.
+pub fn count_arms_keep()
+    ensures { CountArmsKeep }
 {}

@@ -5,7 +5,9 @@ mod laws;
 mod rule;
 mod views;
 
-pub use laws::{claims_keep, draws_keep, dry_draws_keep, front_arms_keep, front_loads_keep, fulls_keep};
-pub use laws::{fresh_words_open, totals_fit};
+pub use laws::{
+    claims_keep, count_arms_keep, draws_keep, dry_draws_keep, fresh_words_open, front_arms_keep,
+    front_loads_keep, fulls_keep, totals_fit, within_keeps,
+};
 pub use rule::ChunkRule;
 pub use views::{BuilderView, ChunkView, FrontView, Reading, Stage};
