@@ -1,35 +1,30 @@
 -- The words of a fresh queue keep the rule, so that it says nothing impossible; and the total fits its field.
-use Rattle.std.proofs.Common.{◌≡◌, ◌≢◌, ◌⊎◌, ℕ, zero, suc, ◌+◌, ◌-◌, ◌*◌, ◌/◌, ◌<◌, ◌≤◌, cond, eqb, List, [], ◌∷◌, ◌++◌, map, length, get_or, replicate, sym, refl, ap, ◌∙◌, subst, inl, inr, ⊎_elim, arith, sum_by, Contains, All}
+use Rattle.std.proofs.Common.{◌≡◌, ◌⊎◌, ℕ, zero, suc, ◌+◌, ◌-◌, ◌<◌, ◌≤◌, cond, eqb, List, [], ◌∷◌, length, get_or, replicate, sym, refl, ap, ◌∙◌, subst, inl, inr, ⊎_elim, arith, Contains}
 use Rattle.std.proofs.lemmas.List.{length-replicate}
 use Rattle.std.proofs.lemmas.List.Sums.{sum_by-cons}
 use Rattle.std.proofs.lemmas.List.Elements.{All-nil}
 use mathlib.Core.Option.{some, some-injective, some-ne-none}
 use lib.ListN.{get_elem?}
 use Rattle.pq_words.specs.declared.entries.Entry.{Entry}
-use Rattle.pq_words.specs.declared.place_words.PlaceWord.TheVariants.{Empty, Pending, Frozen}
-use Rattle.pq_words.specs.PlaceWords.{place_number}
-use Rattle.pq_words.specs.TaggedWords.{IsOwner}
+use Rattle.pq_words.specs.declared.place_words.PlaceWord.TheVariants.{Empty}
 use Rattle.pq_words.specs.Entries.{raw_of}
-use Rattle.pq_seats.specs.declared.views.Limits.{Limits}
 use Rattle.pq_seats.specs.declared.views.Post.{Post}
-use Rattle.pq_seats.specs.Views.{post_of, empty_post}
-use Rattle.pq_seats.specs.Rules.{Table, Holds}
+use Rattle.pq_seats.specs.Views.{empty_post}
 use Rattle.pq_seats.proofs.Lists.{in_cases, not_in, test_other}
 use Rattle.pq_seats.proofs.Lengths.{few_marks}
 use Rattle.pq_pool.specs.declared.views.PoolState.{PoolState}
-use Rattle.pq_pool.specs.Layout.{Chunks, builder_word, pin_word, grace_word, next_word, state_word}
+use Rattle.pq_pool.specs.Layout.{builder_word, next_word}
 use Rattle.pq_pool.specs.States.{state_of, IsInUse}
 use Rattle.pq_pool.specs.Views.{pool_state}
 use Rattle.pq_chunk.specs.declared.views.ChunkView.{ChunkView}
-use Rattle.pq_chunk.specs.declared.views.BuilderView.{BuilderView}
-use Rattle.pq_chunk.specs.Layout.{place_word, count_word, low_word, high_word, chunk_count, offer_word}
-use Rattle.pq_chunk.specs.Places.{sum_to, in_weight, chunk_weight, IsPlace}
-use Rattle.pq_chunk.specs.Views.{pool_of, idle_chunk, times}
+use Rattle.pq_chunk.specs.Layout.{place_word, high_word, chunk_count}
+use Rattle.pq_chunk.specs.Places.{sum_to, in_weight, chunk_weight}
+use Rattle.pq_chunk.specs.Views.{idle_chunk, times}
 use Rattle.pq_chunk.specs.Letters.{tells, told_words}
 use Rattle.pq_chunk.specs.Chain.{live_one}
 use Rattle.pq_chunk.specs.Stages.{IsStaged}
 use Rattle.pq_chunk.specs.Rules.{chunk_rule, length_in}
-use Rattle.pq_chunk.specs.Opening.{Fresh, FreshWordsOpen, TotalsFit}
+use Rattle.pq_chunk.specs.Opening.{FreshWordsOpen, TotalsFit}
 use Rattle.pq_chunk.proofs.Fields.{length_front}
 use Rattle.pq_chunk.proofs.Lives.{times-cons}
 

@@ -1,18 +1,15 @@
 -- The loads of an insert that walks along the chain.
-use Rattle.std.proofs.Common.{◌≡◌, ◌≢◌, ◌⊎◌, Option, Some, None, ℕ, zero, suc, ◌+◌, ◌-◌, ◌*◌, ◌/◌, ◌<◌, ◌≤◌, Bool, true, false, cond, eqb, List, [], ◌∷◌, map, length, get_or, set, sym, refl, ap, ◌∙◌, subst, inl, inr, ⊎_elim, arith, sum_by, Contains, ne_eqb}
+use Rattle.std.proofs.Common.{◌≡◌, ◌≢◌, ◌⊎◌, ℕ, ◌+◌, ◌<◌, ◌≤◌, false, eqb, List, map, length, get_or, set, sym, refl, ap, ◌∙◌, subst, inl, inr, ⊎_elim, arith, sum_by, ne_eqb}
 use Rattle.std.proofs.lemmas.List.{set-get_or}
-use mathlib.Core.Option.{some}
-use lib.ListN.{get_elem?}
 use native.Mathlib.Decide.{ℕ_discrete}
 use mathlib.Core.Logic.{dite}
 use Rattle.pq_words.specs.declared.entries.Entry.{Entry}
-use Rattle.pq_words.specs.Entries.{raw_of}
 use Rattle.pq_words.specs.Fronts.{here}
 use Rattle.pq_model.specs.History.{left}
 use Rattle.pq_seats.specs.declared.views.Post.{Post}
 use Rattle.pq_seats.specs.declared.views.View.{View}
 use Rattle.pq_seats.specs.Views.{post_of}
-use Rattle.pq_seats.proofs.Lists.{sum_set, sum_kept, test_same, test_other}
+use Rattle.pq_seats.proofs.Lists.{sum_set, sum_kept, test_other}
 use Rattle.pq_seats.proofs.Owning.{own_stays}
 use Rattle.pq_pool.specs.States.{IsInUse}
 use Rattle.pq_pool.specs.FactsStay.Framing.{seat_stays, seat_stays-counted}
@@ -20,7 +17,7 @@ use Rattle.pq_chunk.specs.declared.views.ChunkView.{ChunkView}
 use Rattle.pq_chunk.specs.declared.views.Stage.{Stage}
 use Rattle.pq_chunk.specs.declared.views.Stage.TheVariants.{Idle, AtFirst, Past, At, Within, Armed, Drawn, Waiting, Marked, Offered}
 use Rattle.pq_chunk.specs.Layout.{count_word, high_word, chunk_count}
-use Rattle.pq_chunk.specs.Views.{pool_of, claim_of, armed_of, armed_for, armed_stage, stage_weight, is_offered}
+use Rattle.pq_chunk.specs.Views.{pool_of, armed_for, armed_stage, stage_weight, is_offered}
 use Rattle.pq_chunk.specs.Stages.{IsStage}
 use Rattle.pq_chunk.specs.Rules.{chunk_rule, ChunkTied}
 use Rattle.pq_chunk.specs.LawsHold.{chunk_lawful, are_seats}

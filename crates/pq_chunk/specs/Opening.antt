@@ -1,7 +1,6 @@
 -- The words of a fresh queue, and the law on the greatest total.
 use Rattle.std.specs.Prelude.{◌≡◌, ℕ, ◌-◌, ◌+◌, ◌<◌, ◌≤◌, List, [], ◌∷◌, length, replicate, slice_index}
 use Rattle.pq_words.specs.Limits.{max_claimed, dry_at, total_limit}
-use Rattle.pq_words.specs.declared.fronts.Front.{Front}
 use Rattle.pq_model.specs.Limits.{max_seats}
 use Rattle.pq_seats.specs.declared.views.Limits.{Limits}
 use Rattle.pq_seats.specs.Views.{empty_post}
