@@ -67,7 +67,7 @@ module _ (v : View ChunkView) (M : Moment v) (from to : Stage) (was : v.post.own
             counts (λ c j e z. absurd (not_put c j e (⊎_elim (λ a. inl (sym was ∙ a)) (λ a. inr (sym was ∙ a)) z))) refl
             (record { stage = stage; reading = (T.places.each M.id p at).reading });
         content = content_post m T.shape.firsts T.shape.rest (here T.shape.front) T.shape.front.first T.shape.chunks words ps T.content M.id p p' at (λ f. weighs f ∙ sym (ap (stage_weight f) was));
-        building = notes_kept (chunk_count k.capacity) T.shape.counted T.shape.old words ps T.building T.shape.counted words M.id p p' at (λ c b. b) (λ o j y n. refl) refl;
+        building = notes_kept (chunk_count k.capacity) T.shape.counted T.shape.old words ps T.building T.shape.counted words M.id p p' at (λ c b. b) (λ l q u j y n. refl) refl;
         offers = offers_kept k.capacity words ps T.offers words M.id p p' at same.offers (λ n s. refl) (are_seats k M.table M.holds) refl refl refl refl offered (λ _. refl);
       } in
       own_stays chunk_rule k chunk_lawful M.table M.holds M.id v p' M.here (λ z. omega arith) (record { number = refl; locks = refl; owed = refl; flight = inl refl })

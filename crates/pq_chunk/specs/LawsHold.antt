@@ -133,7 +133,7 @@ chunk_pool_laws = record {
       let counts = pin_stays-counted pool_of k s.words ps t.pool id v.post there seat one no_lock p' refl refl stands refl safe ∙ t.counts in
       whole_kept k s.words ps (left h.history) t words' id v.post p' there (are_seats k s h) (pin_stays pool_of k s.words ps t.pool id v.post there seat one no_lock p' refl refl stands refl safe)
       (λ c. ap (λ (b : PoolState). live_one b c) counts) (λ c used. subst (λ (b : PoolState). IsInUse b c) counts used) (λ c built. subst (λ (b : PoolState). IsBuilt b c) (sym counts) built)
-      same (λ o j y n. get_or-set_other s.words i j 1 0 (λ z. let far = note_far (chunk_count k.capacity) t.shape.counted t.shape.old o s.words j y n in let high = low.1 in omega arith))
+      same (λ l q to j y n. get_or-set_other s.words i j 1 0 (λ z. let far = note_far (chunk_count k.capacity) t.shape.counted t.shape.old q.own.builder.outside s.words j y n in let high = low.1 in omega arith))
       refl refl refl refl refl refl refl refl
       (λ c o. record { pinned = refl; stands = kept o.pinned c o.stands });
   builds = λ k s h id v at has i x w B.
@@ -153,9 +153,9 @@ chunk_pool_laws = record {
       (λ c used. in_use_before k.seats v.post.number s.words t.shape.counted w.counted kinds moves c (subst (λ (z : PoolState). IsInUse z c) counts used))
       (λ c built. subst (λ (z : PoolState). IsBuilt z c) (sym counts) (built_after k.seats v.post.number s.words t.shape.counted w.counted kinds moves c built))
       same
-      (λ o j y n. spared t.pool.chunks.count k.seats few s.words words' B.others j
-      (λ l a d z. let far = note_far (chunk_count k.capacity) t.shape.counted t.shape.old o s.words j y n in omega arith)
-      (λ c l z. note_no_state (chunk_count k.capacity) t.shape.counted t.shape.old o s.words j y n c z))
+      (λ m q to j y n. spared t.pool.chunks.count k.seats few s.words words' B.others j
+      (λ l a d z. let far = note_far (chunk_count k.capacity) t.shape.counted t.shape.old q.own.builder.outside s.words j y n in omega arith)
+      (λ c l z. note_no_state (chunk_count k.capacity) t.shape.counted t.shape.old q.own.builder.outside s.words j y n c z))
       refl refl refl refl refl refl refl refl
       (λ c o. record { pinned = B.pin.0 ∙ o.pinned; stands = subst (λ (z : List ℕ). Contains z c) (sym B.pin.1) o.stands });
   taken = λ k o o' e. e.names;

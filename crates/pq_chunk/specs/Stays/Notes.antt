@@ -40,15 +40,15 @@ note_stays chunks counted counted' old outside words words' i x built same n = r
 module _ (chunks : ℕ) (counted : PoolState) (old : Replaced) (words : List ℕ) (posts : List (Post ChunkView)) (t : BuilderFacts chunks counted old words posts) where
   -- the frame
   pub notes_kept : (counted' : PoolState) (words' : List ℕ) (id : ℕ) (p p' : Post ChunkView) → get_elem? posts id ≡ some p → ((c : ℕ) → IsBuilt counted c → IsBuilt counted' c)
-      → ((outside : List ℕ) (i x : ℕ) → IsNote chunks counted old outside words i x → get_or words' i 0 ≡ get_or words i 0) → p'.own.builder ≡ p.own.builder
+      → ((j : ℕ) (q : Post ChunkView) → get_elem? posts j ≡ some q → (i x : ℕ) → IsNote chunks counted old q.own.builder.outside words i x → get_or words' i 0 ≡ get_or words i 0) → p'.own.builder ≡ p.own.builder
       → BuilderFacts chunks counted' old words' (set posts id p')
   notes_kept counted' words' id p p' at built same builder = record {
     notes = λ j q to x has. ⊎_elim
         (λ e. let b : q.own.builder ≡ p.own.builder = ap (λ (z : Post ChunkView). z.own.builder) (sym e.1) ∙ builder in
         let n = t.notes id p at x (subst (λ (z : BuilderView). Contains z.notes x) b has) in
         subst (λ (z : BuilderView). IsNote chunks counted' old z.outside words' x.0 x.1) (sym b)
-        (note_stays chunks counted counted' old p.own.builder.outside words words' x.0 x.1 built (same p.own.builder.outside x.0 x.1 n) n))
-        (λ r. let n = t.notes j q r.1 x has in note_stays chunks counted counted' old q.own.builder.outside words words' x.0 x.1 built (same q.own.builder.outside x.0 x.1 n) n)
+        (note_stays chunks counted counted' old p.own.builder.outside words words' x.0 x.1 built (same id p at x.0 x.1 n) n))
+        (λ r. let n = t.notes j q r.1 x has in note_stays chunks counted counted' old q.own.builder.outside words words' x.0 x.1 built (same j q r.1 x.0 x.1 n) n)
         (at_set posts id j p' q to);
   }
 

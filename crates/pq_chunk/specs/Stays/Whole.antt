@@ -90,7 +90,7 @@ module _ (k : Limits) (words : List ℕ) (posts : List (Post ChunkView)) (m : Li
   -- a step of the pool, which changes the pool's part of one view alone
   pub whole_kept : (words' : List ℕ) (id : ℕ) (p p' : Post ChunkView) → get_elem? posts id ≡ some p → AreSeats posts → (pool : PoolFacts pool_of k words' (set posts id p'))
       → ((c : ℕ) → live_one pool.counted c ≡ live_one t.shape.counted c) → ((c : ℕ) → IsInUse pool.counted c → IsInUse t.shape.counted c) → ((c : ℕ) → IsBuilt t.shape.counted c → IsBuilt pool.counted c)
-      → KeepsWords k.capacity words words' → ((outside : List ℕ) (i x : ℕ) → IsNote (chunk_count k.capacity) t.shape.counted t.shape.old outside words i x → get_or words' i 0 ≡ get_or words i 0)
+      → KeepsWords k.capacity words words' → ((j : ℕ) (q : Post ChunkView) → get_elem? posts j ≡ some q → (i x : ℕ) → IsNote (chunk_count k.capacity) t.shape.counted t.shape.old q.own.builder.outside words i x → get_or words' i 0 ≡ get_or words i 0)
       → p'.number ≡ p.number → p'.locks ≡ p.locks → p'.flight ≡ p.flight → p'.owed ≡ p.owed
       → p'.own.front ≡ p.own.front → p'.own.stage ≡ p.own.stage → p'.own.reading ≡ p.own.reading → p'.own.builder ≡ p.own.builder
       → ((c : ℕ) → IsOn p.own.pool c → IsOn p'.own.pool c) → ChunkTied k words' (set posts id p') m
@@ -150,7 +150,7 @@ module _ (k : Limits) (words : List ℕ) (posts : List (Post ChunkView)) (m : Li
             (record { stage = tt; reading = tt });
         content = content_kept m t.shape.firsts t.shape.rest (here t.shape.front) t.shape.front.first t.shape.chunks words posts t.content words id p p' at (omega arith) same.places refl
             (λ f. sym (ap (stage_weight f) rest.idle));
-        building = notes_kept (chunk_count k.capacity) t.shape.counted t.shape.old words posts t.building t.shape.counted words id p p' at (λ c b. b) (λ o i x n. refl) builder;
+        building = notes_kept (chunk_count k.capacity) t.shape.counted t.shape.old words posts t.building t.shape.counted words id p p' at (λ c b. b) (λ j q to i x n. refl) builder;
         offers = offers;
       }
 
@@ -198,6 +198,6 @@ module _ (k : Limits) (words : List ℕ) (posts : List (Post ChunkView)) (m : Li
           content = subst (λ (z : ℕ). ContentFacts m' firsts rest (here g) z t.shape.chunks ws (set posts id p')) (sym first)
               (content_words m' firsts rest (here g) t.shape.front.first t.shape.chunks words (set posts id p') content ws few kept.0 (kept.1 t.shape.front.first).high);
           building = notes_kept (chunk_count k.capacity) t.shape.counted t.shape.old words posts t.building t.shape.counted ws id p p' at (λ c b. b)
-              (λ o j y n. other j (λ z. let far = note_far (chunk_count k.capacity) t.shape.counted t.shape.old o words j y n in omega arith)) builder;
+              (λ l q to j y n. other j (λ z. let far = note_far (chunk_count k.capacity) t.shape.counted t.shape.old q.own.builder.outside words j y n in omega arith)) builder;
           offers = offers;
         }
