@@ -6,3 +6,4 @@ pub mod FrontSteps
 pub mod Draws
 pub mod Starting
 pub mod Walking
+pub mod CountSteps

@@ -1,5 +1,5 @@
 -- What keeps the rule: each step of an insert and of a removal, in each state in which the whole rule holds.
-use Rattle.std.specs.Prelude.{◌≡◌, ℕ, ◌-◌, ◌<◌, ◌≤◌, true, false, Some, None, length, slice_index}
+use Rattle.std.specs.Prelude.{◌≡◌, ℕ, suc, ◌-◌, ◌<◌, ◌≤◌, true, false, Some, None, length, slice_index}
 use Rattle.pq_words.specs.Limits.{dry_at}
 use Rattle.pq_words.specs.declared.entries.Entry.{Entry}
 use Rattle.pq_words.specs.declared.place_words.PlaceWord.TheVariants.{In}
@@ -19,9 +19,9 @@ use Rattle.pq_seats.specs.Posts.{placed_view}
 use Rattle.pq_seats.specs.Rules.{Table, Holds, Stands}
 use Rattle.pq_seats.specs.Laws.{stepped_to}
 use Rattle.pq_chunk.specs.declared.views.ChunkView.{ChunkView}
-use Rattle.pq_chunk.specs.declared.views.Stage.TheVariants.{Idle, At, Within, Armed}
+use Rattle.pq_chunk.specs.declared.views.Stage.TheVariants.{Idle, At, Within, Armed, Drawn}
 use Rattle.pq_chunk.specs.declared.views.Reading.TheVariants.{Nothing}
-use Rattle.pq_chunk.specs.Layout.{place_count, place_word, count_word, high_word}
+use Rattle.pq_chunk.specs.Layout.{place_count, count_limit, place_word, count_word, high_word}
 use Rattle.pq_chunk.specs.Rules.{chunk_rule}
 use Rattle.pq_chunk.specs.Steps.{with_view, more_claimed, more_total, less_remaining, front_read, front_seen, staged, claimed, got_own, lone}
 
@@ -111,3 +111,11 @@ abbrev pub CountArmsKeep : Type 0
 CountArmsKeep = (v : View ChunkView) (m : Moment v) (c : ℕ) (e : Entry) (count : ℕ) → WordIs m (count_word c) count
     → v.post.own.stage ≡ Within c e → count < place_count
     → Keeps m (count_word c) count (with_view v (staged v.post.own (Armed c e)))
+
+-- *count-up*: the place is drawn that the count named, or none was left. The count does not pass 80
+abbrev pub CountsKeep : Type 0
+CountsKeep = (v : View ChunkView) (m : Moment v) (c : ℕ) (e : Entry) (count : ℕ) → WordIs m (count_word c) count
+    → v.post.own.stage ≡ Armed c e
+    → (count < count_limit)
+    × (count < place_count → Keeps m (count_word c) (suc count) (with_view v (staged v.post.own (Drawn c count e))))
+    × (place_count ≤ count → Keeps m (count_word c) (suc count) (with_view v (staged v.post.own Idle)))

@@ -1,6 +1,6 @@
 //! Laws of the rule: which steps keep it, in each state in which it holds.
 ghost use Rattle.pq_chunk.specs.Laws.{FrontLoadsKeep, FrontArmsKeep, ClaimsKeep, FullsKeep, DrawsKeep, DryDrawsKeep};
-ghost use Rattle.pq_chunk.specs.Laws.{WithinKeeps, CountArmsKeep};
+ghost use Rattle.pq_chunk.specs.Laws.{WithinKeeps, CountArmsKeep, CountsKeep};
 ghost use Rattle.pq_chunk.specs.Opening.{FreshWordsOpen, TotalsFit};
 
 /// Law: a load of the front word keeps the rule, and so does an exchange of it that lost.
@@ -58,4 +58,10 @@ pub fn within_keeps()
 /// seats that are armed for it are at most 80 together, since the seats are at most 16.
 pub fn count_arms_keep()
     ensures { CountArmsKeep }
+{}
+
+/// Law: so does the addition of 1 to the count by an armed seat. The place that the count named is the seat's, or none was
+/// left. The count was below 80.
+pub fn counts_keep()
+    ensures { CountsKeep }
 {}

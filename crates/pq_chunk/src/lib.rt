@@ -6,8 +6,8 @@ mod rule;
 mod views;
 
 pub use laws::{
-    claims_keep, count_arms_keep, draws_keep, dry_draws_keep, fresh_words_open, front_arms_keep,
-    front_loads_keep, fulls_keep, totals_fit, within_keeps,
+    claims_keep, count_arms_keep, counts_keep, draws_keep, dry_draws_keep, fresh_words_open,
+    front_arms_keep, front_loads_keep, fulls_keep, totals_fit, within_keeps,
 };
 pub use rule::ChunkRule;
 pub use views::{BuilderView, ChunkView, FrontView, Reading, Stage};
