@@ -13,9 +13,9 @@ use Rattle.pq_cli.specs.Commands.{duty_of}
 use Rattle.pq_cli.specs.Duties.{Duty, Reads, Writes}
 use Rattle.pq_cli.specs.Refusals.{status_of}
 use Rattle.pq_cli.specs.Statuses.{IsAnswered}
-use Rattle.pq_cli.specs.Streams.{Change, IsFailed, IsSame}
+use Rattle.pq_cli.specs.Streams.{Change, IsFailed, IsSame, IsSound, HasFailedOnce}
 use Rattle.pq_cli.specs.Work.{Work, Search, fault_of, HasEnough}
-use Rattle.pq_cli.specs.Runs.{StopsWork, Stops, Answers, IsWhole, Ends, IsWritten, IsUnread, IsRun, IsReported, IsAnsweredWhole, IsComplete}
+use Rattle.pq_cli.specs.Runs.{StopsWork, Stops, Answers, IsWhole, Ends, IsWritten, IsUnread, IsRun, IsReported, IsAnsweredWhole, IsComplete, TellsFaults}
 
 -- what a command came to, and what writing it came to
 
@@ -24,7 +24,7 @@ made_ends : {I O : Type 0} (duty : Duty) (made : Result Answer Refusal) (status 
     MatchResult made (λ a. IsWritten (text_in a) (status_in a) status output) (λ r. (status ≡ status_of r) × IsSame output) →
     Ends duty status input output
 made_ends duty (Ok a) status input output answers stops written = elim written [
-  | inl whole ↦ inl (record { text = text_in a; answers = rw whole.0 answers; written = whole.1 })
+  | inl whole ↦ inl (record { text = text_in a; answers = rw whole.0 answers; written = whole.1; sound = whole.2 })
   | inr cut ↦ inr (inr (record {
     answered = status_in a;
     text = text_in a;
@@ -47,6 +47,72 @@ made_run (Some k) c made status input output is answers stops written =
     subst (λ x. Ends (duty_of x) status input output) same (made_ends (duty_of c) made status input output answers stops written)
 
 -- answers
+
+-- faults
+
+-- a count that rose by one rose, or stands at its last value
+once_rose : {S : Type 0} (stream : Change S) → HasFailedOnce stream → IsFailed stream
+once_rose stream once = omega (arith, once)
+
+same_sound : {S : Type 0} (stream : Change S) → IsSame stream → IsSound stream
+same_sound stream same = ap stream.faults same
+
+answers_sound : {I : Type 0} (duty : Duty) (status : Status) (text : List ℕ) (input : Change I) → Answers duty status text input → IsSound input
+answers_sound (Reads work) status text input h = h.taken.sound
+answers_sound (Writes own) status text input h = same_sound input h.unread
+
+work_sound : {I : Type 0} (work : Work) (input : Change I) (refusal : Refusal) → StopsWork work input refusal → (status_of refusal ≡ statuses.ReadFault → ⊥) → IsSound input
+work_sound work input (refusals.BadInput fault) h not = h.sound
+work_sound work input (refusals.NodeLimit asked limit) h not = h.taken.sound
+work_sound work input (refusals.Full place) h not = h.taken.sound
+work_sound work input refusals.ReadFault h not = absurd (not refl)
+work_sound work input refusals.NoMemory h not = h
+work_sound work input refusals.ProofLimit h not = h.taken.sound
+
+stops_sound : {I : Type 0} (duty : Duty) (input : Change I) (refusal : Refusal) → Stops duty input refusal → (status_of refusal ≡ statuses.ReadFault → ⊥) → IsSound input
+stops_sound (Reads work) input refusal h not = work_sound work input refusal h not
+stops_sound (Writes own) input refusal h not = same_sound input h.0
+
+end_reads : {I O : Type 0} (duty : Duty) (status : Status) (input : Change I) (output : Change O) →
+    Ends duty status input output → (status ≡ statuses.ReadFault → ⊥) → IsSound input
+end_reads duty status input output (inl whole) not = answers_sound duty status whole.text input whole.answers
+end_reads duty status input output (inr (inl s)) not = stops_sound duty input s.refusal s.stops (λ e. not (s.named ∙ e))
+end_reads duty status input output (inr (inr cut)) not = answers_sound duty cut.answered cut.text input cut.answers
+
+end_writes : {I O : Type 0} (duty : Duty) (status : Status) (input : Change I) (output : Change O) →
+    Ends duty status input output → (status ≡ statuses.WriteFault → ⊥) → IsSound output
+end_writes duty status input output (inl whole) not = whole.sound
+end_writes duty status input output (inr (inl s)) not = same_sound output s.same
+end_writes duty status input output (inr (inr cut)) not = absurd (not cut.named)
+
+run_reads : {I O : Type 0} (said : Option Command) (status : Status) (input : Change I) (output : Change O) →
+    IsRun said status input output → (status ≡ statuses.ReadFault → ⊥) → IsSound input
+run_reads None status input output ran not = same_sound input ran.unread
+run_reads (Some c) status input output ran not = end_reads (duty_of c) status input output ran not
+
+run_writes : {I O : Type 0} (said : Option Command) (status : Status) (input : Change I) (output : Change O) →
+    IsRun said status input output → (status ≡ statuses.WriteFault → ⊥) → IsSound output
+run_writes None status input output ran not = same_sound output ran.unwritten
+run_writes (Some c) status input output ran not = end_writes (duty_of c) status input output ran not
+
+-- where the call does not end with a write fault, its status is the one that it came to, and the faults took the line
+told_line : {E : Type 0} (status ended : Status) (faults : Change E) →
+    IsReported status ended faults → (ended ≡ statuses.WriteFault → ⊥) → (ended ≡ status) × IsSound faults
+told_line status ended faults reported not = elim reported.line [
+  | inl same ↦ (same.0, same.2)
+  | inr failed ↦ absurd (not failed.0)
+]
+
+-- the faults of the three streams show in the status
+pub faults_told : {I O E : Type 0} (said : Option Command) (status ended : Status) (input : Change I) (output : Change O) (faults : Change E) →
+    IsRun said status input output → IsReported status ended faults → TellsFaults ended input output faults
+faults_told said status ended input output faults ran reported = record {
+  read = λ not_read not_write. run_reads said status input output ran (λ e. not_read ((told_line status ended faults reported not_write).0 ∙ e));
+  written = λ not_write. let line = told_line status ended faults reported not_write in
+      (run_writes said status input output ran (λ e. not_write (line.0 ∙ e)), line.1);
+}
+
+-- answers, again
 
 not_answered : (refusal : Refusal) → IsAnswered (status_of refusal) → ⊥
 not_answered (refusals.BadInput fault) h = h
@@ -124,7 +190,7 @@ no_memory work input (refusals.NodeLimit asked limit) bytes told reads enough st
 no_memory work input (refusals.Full place) bytes told reads enough still h =
     let same = left_is (input.told input.old) h.bytes bytes told h.taken.were_left in
     absurd (not_filled work.search bytes place enough.for_search (rw same at h.holds.1))
-no_memory work input refusals.ReadFault bytes told reads enough still h = absurd (still h)
+no_memory work input refusals.ReadFault bytes told reads enough still h = absurd (still (once_rose input h))
 no_memory work input refusals.NoMemory bytes told reads enough still h = refl
 no_memory work input refusals.ProofLimit bytes told reads enough still h =
     let same = left_is (input.told input.old) h.bytes bytes told h.taken.were_left in
@@ -140,13 +206,13 @@ answered_or_no_memory : {I O : Type 0} (duty : Duty) (status : Status) (input : 
     Ends duty status input output → IsAnswered status ⊎ (status ≡ statuses.NoMemory)
 answered_or_no_memory duty status input output only written (inl whole) = inl (answers_end duty status whole.text input whole.answers)
 answered_or_no_memory duty status input output only written (inr (inl s)) = inr (s.named ∙ ap status_of (only s.refusal s.stops))
-answered_or_no_memory duty status input output only written (inr (inr cut)) = absurd (written cut.failed)
+answered_or_no_memory duty status input output only written (inr (inr cut)) = absurd (written (once_rose output cut.failed))
 
 kept_outcome : {E : Type 0} (status ended : Status) (faults : Change E) → IsReported status ended faults → (IsFailed faults → ⊥) →
     IsAnswered status ⊎ (status ≡ statuses.NoMemory) → IsAnswered ended ⊎ (ended ≡ statuses.NoMemory)
 kept_outcome status ended faults reported still outcome = elim reported.line [
   | inl same ↦ rw same.0 outcome
-  | inr failed ↦ absurd (still failed.1)
+  | inr failed ↦ absurd (still (once_rose faults failed.1))
 ]
 
 -- where there was all that the command needs, there is an answer, or no memory

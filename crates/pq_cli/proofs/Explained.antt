@@ -1,7 +1,8 @@
 -- Why a command has no answer to an input: a refusal of gathering it, or of the work on its bytes.
 use Rattle.std.proofs.Common.{◌≡◌, ◌<◌, ◌≤◌, ◌⊎◌, inl, inr, IfSome, ℕ, List, length, Option, None, Some, true, Ok, Err, arith}
 use Rattle.std.proofs.lemmas.Bool.Decides.{nat_tests}
-use Rattle.pq_io.specs.Inputs.{longest_input, too_large, ExplainsInput}
+use Rattle.pq_io.specs.Streams.{faults_after}
+use Rattle.pq_io.specs.Inputs.{longest_input, too_large, has_failed, ExplainsInput}
 use Rattle.pq_io.specs.declared.input.InputRefusal.{InputRefusal}
 use Rattle.pq_io.specs.declared.input.InputRefusal.TheVariants as inputs
 use Rattle.pq_cli.specs.declared.refusal.Refusal.{Refusal}
@@ -31,15 +32,17 @@ taken_whole (Some x) P Q h = inl h
 -- a refusal of gathering the input
 input_stops : {S : Type 0} (work : Work) (input : Change S) (refusal : InputRefusal) →
     ExplainsInput (input.told input.old) (input.told input.new) (input.faults input.old) (input.faults input.new) refusal →
+    input.faults input.new ≡ faults_after (has_failed (Err refusal)) (input.faults input.old) →
     StopsWork work input (of_input refusal)
-input_stops work input (inputs.BadInput fault) h = record {
+input_stops work input (inputs.BadInput fault) h once = record {
   bytes = h.1.bytes;
   were_left = h.1.were_left;
   faulty = rw h.0 (long_is_too_large work h.1.bytes h.1.long);
   taken = taken_in_part (input.told input.old) _ _ h.1.taken;
+  sound = once;
 }
-input_stops work input inputs.ReadFault h = h
-input_stops work input inputs.NoMemory h = tt
+input_stops work input inputs.ReadFault h once = once
+input_stops work input inputs.NoMemory h once = once
 
 -- a refusal of the work on bytes that were taken whole
 work_stops : {S : Type 0} (work : Work) (bytes : List ℕ) (input : Change S) (refusal : Refusal) →
@@ -49,19 +52,21 @@ work_stops work bytes input (refusals.BadInput fault) taken within h = record {
   were_left = taken.were_left;
   faulty = rw (within_is_first work bytes within) h;
   taken = taken_whole (input.told input.old) _ _ taken.end;
+  sound = taken.sound;
 }
 work_stops work bytes input (refusals.NodeLimit asked limit) taken within h = record { bytes = bytes; taken = taken; holds = h }
 work_stops work bytes input (refusals.Full place) taken within h = record { bytes = bytes; taken = taken; holds = h }
 work_stops work bytes input refusals.ReadFault taken within h = absurd h
-work_stops work bytes input refusals.NoMemory taken within h = tt
+work_stops work bytes input refusals.NoMemory taken within h = taken.sound
 work_stops work bytes input refusals.ProofLimit taken within h = record { bytes = bytes; taken = taken; holds = h }
 
 -- the same of a command that reads an input
 pub duty_input_stops : {S : Type 0} (duty : Duty) (input : Change S) (refusal : InputRefusal) → reads_input duty ≡ true →
     ExplainsInput (input.told input.old) (input.told input.new) (input.faults input.old) (input.faults input.new) refusal →
+    input.faults input.new ≡ faults_after (has_failed (Err refusal)) (input.faults input.old) →
     Stops duty input (of_input refusal)
-duty_input_stops (Reads work) input refusal reads h = input_stops work input refusal h
-duty_input_stops (Writes own) input refusal reads h = absurd (cc)
+duty_input_stops (Reads work) input refusal reads h once = input_stops work input refusal h once
+duty_input_stops (Writes own) input refusal reads h once = absurd (cc)
 
 pub duty_stops : {S : Type 0} (duty : Duty) (bytes : List ℕ) (input : Change S) (refusal : Refusal) →
     IsInput duty input bytes → Fulfils duty bytes (Err refusal) → Stops duty input refusal

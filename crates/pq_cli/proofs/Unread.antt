@@ -1,5 +1,5 @@
 -- Words that are read as no command, and how a call ends there.
-use Rattle.std.proofs.Common.{◌≡◌, inl, inr, refl, Option, None, Some, Err}
+use Rattle.std.proofs.Common.{◌≡◌, inl, inr, refl, ap, Option, None, Some, Err}
 use Rattle.cli_words.specs.declared.command.Command.{Command}
 use Rattle.pq_cli.specs.declared.refusal.Refusal.TheVariants as refusals
 use Rattle.pq_cli.specs.declared.status.Status.TheVariants as statuses
@@ -13,7 +13,7 @@ use Rattle.pq_cli.specs.Streams.{Change, IsSame}
 use Rattle.pq_cli.specs.Runs.{Stops, IsRun}
 
 stops_for_memory : {I : Type 0} (duty : Duty) (input : Change I) → IsSame input → Stops duty input refusals.NoMemory
-stops_for_memory (Reads work) input same = tt
+stops_for_memory (Reads work) input same = ap input.faults same
 stops_for_memory (Writes own) input same = (same, refl)
 
 no_memory : {I O : Type 0} (said : Option Command) (input : Change I) (output : Change O) → IsSame input → IsSame output → IsRun said statuses.NoMemory input output

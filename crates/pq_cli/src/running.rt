@@ -6,6 +6,7 @@ ghost use Rattle.pq_cli.specs.Answers.{status_in, text_in, IsWritable};
 ghost use Rattle.cli_words.specs.CommandWords.{command_of, still_command_of, texts};
 ghost use Rattle.pq_cli.specs.Commands.{duty_of};
 ghost use Rattle.pq_cli.specs.Runs.{IsRun, IsRunAndReported, IsAnsweredWhole, IsComplete, IsWritten};
+ghost use Rattle.pq_cli.specs.Runs.{TellsFaults};
 ghost use Rattle.pq_cli.specs.Statuses.{IsAnswered};
 ghost use Rattle.pq_cli.specs.Refusals.{status_of};
 ghost use Rattle.pq_cli.specs.Streams.{change, IsSame};
@@ -44,6 +45,11 @@ pub fn run_still<I: Source, O: Sink, E: Sink>(
     ensures answered { IsAnswered result → IsAnsweredWhole (still_command_of (texts words.now)) result
         (change I.left I.faults input.old input.new)
         (change O.written O.faults output.old output.new) }
+    // A fault of reading shows in the status, and so does one of writing.
+    ensures told { TellsFaults result
+        (change I.left I.faults input.old input.new)
+        (change O.written O.faults output.old output.new)
+        (change E.written E.faults faults.old faults.new) }
     // And where there was all that the command needs, there is an answer, or no memory.
     ensures complete { (c : Command) → still_command_of (texts words.now) ≡ Some c → IsComplete (duty_of c) result
         (change I.left I.faults input.old input.new)
@@ -94,6 +100,11 @@ pub fn run<Rt: Threads + Wait + Sync, I: Source, O: Sink, E: Sink, G: Gate>(
     ensures answered { IsAnswered result → IsAnsweredWhole (command_of (texts words.now)) result
         (change I.left I.faults input.old input.new)
         (change O.written O.faults output.old output.new) }
+    // A fault of reading shows in the status, and so does one of writing.
+    ensures told { TellsFaults result
+        (change I.left I.faults input.old input.new)
+        (change O.written O.faults output.old output.new)
+        (change E.written E.faults faults.old faults.new) }
     // And where there was all that the command needs, there is an answer, or no memory.
     ensures complete { (c : Command) → command_of (texts words.now) ≡ Some c → IsComplete (duty_of c) result
         (change I.left I.faults input.old input.new)
