@@ -44,8 +44,9 @@ use bb_onemach::ActiveShop;
 use bb_shop::Shop;
 use cli_words::{Branching, Command, Kind, Limits, Which};
 use pq_api::{BoundedQueue, Gate};
-use pq_hunt::HuntHeap;
+use pq_hunt::{HuntHeap, HuntRule};
 use pq_io::{Source, gather_input};
+use pq_seats::{SeatRule, SeatedQueue};
 use std::alloc::Global;
 use std::sync::Wait;
 use std::thread::Threads;
@@ -86,7 +87,9 @@ pub fn answer<Rt: Threads + Wait + Sync, I: Source, G: Gate>(
 {
     let bytes = input_of(alloc, command, input)?;
     match command.queue() {
-        Some(Which::Hunt) => work_on::<Rt, HuntHeap<&G>>(rt, alloc, command, &bytes, gate),
+        Some(Which::Hunt) => work_on::<Rt, HuntHeap<&G>, HuntRule>(
+            rt, alloc, command, &bytes, gate,
+        ),
         Some(Which::Plain) | None => work_still(alloc, command, &bytes),
     }
 }
@@ -112,8 +115,9 @@ fn input_of<I: Source>(alloc: Global, command: Command, input: &mut I) -> Result
     Ok(bytes)
 }
 
-// What a command that uses a queue answers to these bytes, where the queue is of this kind.
-fn work_on<Rt: Threads + Wait + Sync, Q: BoundedQueue>(
+// What a command that uses a queue answers to these bytes, where the queue is of this kind, and its words stand under this
+// rule.
+fn work_on<Rt: Threads + Wait + Sync, Q: BoundedQueue + SeatedQueue<Rule = L>, L: SeatRule>(
     rt: &Rt,
     alloc: Global,
     command: Command,
