@@ -34,7 +34,7 @@ use Rattle.pq_seats.proofs.Keeps.{number_low}
 use Rattle.pq_nodes.specs.Guards.{IsGuarded}
 use Rattle.pq_nodes.specs.Parts.{kind_of}
 use Rattle.pq_nodes.specs.Facts.{locks_in, words_in, NodeFacts}
-use Rattle.pq_nodes.specs.Views.{guard, nodes_of, IsApart}
+use Rattle.pq_nodes.specs.Views.{guard, nodes_of, HaveNodesApart}
 use Rattle.pq_nodes.proofs.GuardLists.{first_cases, second_cases}
 use Rattle.pq_nodes.proofs.Guarded.{guard_written}
 use Rattle.pq_nodes.proofs.Keeping.{frame_keeps, step_keeps, same_names}
@@ -213,7 +213,7 @@ module _ (k : Limits) (s : Table MoundPart) (h : Holds mound_rule k s) (id : ℕ
       → v.post.own.guards ≡ g ∷ gs → p'.own.guards ≡ guard g.node g.stored counted ∷ gs → p'.locks ≡ v.post.locks
       → NodeFacts mound_nodes (set s.words 0 new) (set qs id p') (set t.nodes g.node counted)
   first_recounted g gs counted new p' guards is locks = let g' : Guard = guard g.node g.stored counted in
-      let apart : IsApart (g ∷ gs) = subst IsApart guards (t.tree.names id v.post here).apart in
+      let apart : HaveNodesApart (g ∷ gs) = subst HaveNodesApart guards (t.tree.names id v.post here).apart in
       recounted g counted new p' (subst (λ (z : List Guard). Contains z g) (sym guards) (in_first g gs))
       (λ z at_z. ⊎_elim (λ e. inl e)
       (λ r. inr (r.0, subst (λ (l : List Guard). Contains l z) (sym guards) r.1))
@@ -226,7 +226,7 @@ module _ (k : Limits) (s : Table MoundPart) (h : Holds mound_rule k s) (id : ℕ
       → p'.locks ≡ v.post.locks
       → NodeFacts mound_nodes (set s.words 0 new) (set qs id p') (set t.nodes g.node counted)
   second_recounted f g gs counted new p' guards is locks = let g' : Guard = guard g.node g.stored counted in
-      let apart : IsApart (f ∷ g ∷ gs) = subst IsApart guards (t.tree.names id v.post here).apart in
+      let apart : HaveNodesApart (f ∷ g ∷ gs) = subst HaveNodesApart guards (t.tree.names id v.post here).apart in
       recounted g counted new p'
       (subst (λ (z : List Guard). Contains z g) (sym guards) (in_later f g (g ∷ gs) (in_first g gs)))
       (λ z at_z. ⊎_elim (λ e. inl e)

@@ -8,7 +8,8 @@ use Rattle.pq_words.specs.Entries.{raw_of}
 use Rattle.pq_model.specs.Multiset.{IsRising}
 use Rattle.pq_nodes.specs.Ancestors.{IsAbove}
 use Rattle.pq_nodes.proofs.Ancestors.{above_lt}
-use Rattle.pq_nodes.proofs.Orders.{IsSame, under_parent, over_bound, over_children, changed, sifted}
+use Rattle.pq_nodes.specs.OrderLaws.{IsSame}
+use Rattle.pq_nodes.proofs.Orders.{under_parent, over_bound, over_children, changed, sifted}
 use Rattle.pq_nodes.proofs.Written.{each_place, two_places}
 use Rattle.pq_mound.specs.declared.nodes.Cell.{Cell}
 use Rattle.pq_mound.specs.declared.nodes.Node.{Node}
