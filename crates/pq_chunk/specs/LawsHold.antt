@@ -122,6 +122,7 @@ chunk_pool_laws = record {
   again = λ o v w. refl;
   back = λ o. refl;
   facts = λ k s h. h.tied.pool;
+  rests = λ o rest. rest.unpinned;
   pins = λ k s h id v at positive no_lock stands safe kept.
       let t = h.tied in let ps = map post_of s.views in let there = at_map post_of s.views id v at in
       let ne : v.post.number ≢ 0 = λ z. omega arith in
