@@ -20,5 +20,6 @@ pub use laws::{
     greatest_value_is_best, proofs_are_verified, solutions_are_checked, traces_are_one,
 };
 pub use reporting::report;
+pub use rules::heaps_stand_under_their_rule;
 pub use running::{run, run_still};
 pub use status::Status;

@@ -22,6 +22,7 @@ use pq_api::{
 };
 use pq_io::NoMemory;
 use pq_model::{MAX_CAPACITY, MAX_SEATS};
+use pq_nodes::word_of;
 use pq_seats::{SeatedQueue, Shared};
 use pq_words::{Entry, HeapWord, Tag};
 use std::alloc::Global;
