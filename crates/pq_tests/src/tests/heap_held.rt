@@ -1,15 +1,16 @@
 //! A call of the heap that is held in the middle of its work, while the other seat's calls answer or have to wait.
-ghost use Rattle.std.specs.Prelude.{◌<◌, ◌≤◌, ◌+◌, length};
+ghost use Rattle.std.specs.Prelude.{◌≡◌, ◌<◌, ◌≤◌, length, IfOk};
 ghost use Rattle.pq_words.specs.Limits.{key_limit};
-ghost use Rattle.pq_model.specs.Limits.{max_capacity};
-ghost use Rattle.pq_checks.specs.Limits.{check_limit};
+ghost use Rattle.pq_model.specs.Passes.{lanes};
+ghost use Rattle.pq_lanes.specs.Lanes.{on_tapes, AreNumbered};
 
-use pq_api::{Point, SharedQueue};
+use pq_api::{BoundedQueue, Point, SharedQueue};
 use pq_checks::{
     Aside, CheckFault, HeldCall, HeldFault, LateHold, Made, Nothing, Wanted, audited,
     beside_a_held_call, leaves,
 };
 use pq_hunt::HuntHeap;
+use pq_lanes::Lanes;
 use pq_model::{Act, Call, Reply};
 use pq_words::Entry;
 use std::alloc::Global;
@@ -69,11 +70,42 @@ fn row<'a>(before: &'a [Wanted], held: Wanted, beside: &'a [Wanted]) -> HeldCall
     }
 }
 
-// How many calls a row has, of which the held one is made once.
-fn calls_of(row: &HeldCall) -> u32
-    requires few { length row.now.before.now + row.now.most + length row.now.beside.now < check_limit }
+// A row whose held call the other seat's call has to wait for.
+fn waiting_row<'a>(before: &'a [Wanted], held: Wanted, waits: Wanted) -> HeldCall<'a> {
+    HeldCall {
+        waits: Some(waits),
+        ..row(before, held, &[])
+    }
+}
+
+// No row here has as many calls as this before or beside the held one, or tries to hold one so often.
+const MOST_CALLS: usize = 100;
+
+// Runs a row that has few calls.
+fn run_held<R: Threads + Wait + Sync, Q: BoundedQueue, A: Aside<Q>>(
+    rt: &R,
+    alloc: Global,
+    gate: Q::Gate,
+    late: &LateHold,
+    row: &HeldCall,
+    aside: &A,
+) -> Result<(Q, Lanes<Q::Pass>), HeldFault>
+    requires seats { 2 ≤ Q.SEATS }
+    ensures own { IfOk result (λ r. Q.belongs r.0 r.1.pass) }
+    ensures limits { IfOk result (λ r. (Q.capacity_of r.0 ≡ row.now.capacity) × (Q.seats_of r.0 ≡ 2)) }
+    ensures tapes { IfOk result (λ r. on_tapes r.1.tapes.items ≡ lanes (Q.known r.1.pass)) }
+    ensures numbered { IfOk result (λ r. AreNumbered 1 (lanes (Q.known r.1.pass)) × (length r.1.tapes.items ≡ 2)) }
+    ensures few { IfOk result (λ _. (length row.now.before.now < 100) × (length row.now.beside.now < 100)) }
 {
-    (row.before.len() + row.beside.len() + 1) as u32 + u32::from(row.waits.is_some())
+    if row.capacity < 2
+        || row.capacity > Q::CAPACITY
+        || row.before.len() >= MOST_CALLS
+        || row.beside.len() >= MOST_CALLS
+        || row.most as usize >= MOST_CALLS
+    {
+        return Err(HeldFault::NotHeld);
+    }
+    beside_a_held_call::<R, Q, A>(rt, alloc, gate, late, row, aside)
 }
 
 // Runs a row on a heap and closes it: what was amiss with the calls, and then with what is left.
@@ -83,18 +115,16 @@ fn run<R: Threads + Wait + Sync>(
     late: &LateHold,
     row: &HeldCall,
     left: &[Entry],
-) -> Result<Result<(), CheckFault>, HeldFault>
-    requires room { (2 ≤ row.now.capacity) × (row.now.capacity ≤ max_capacity) }
-    requires few { length row.now.before.now + row.now.most + length row.now.beside.now < check_limit }
-{
-    let (queue, lanes) = beside_a_held_call::<R, HuntHeap<&LateHold>, Nothing>(
+) -> Result<Result<(), CheckFault>, HeldFault> {
+    let (queue, lanes) = run_held::<R, HuntHeap<&LateHold>, Nothing>(
         rt, alloc, late, late, row, &Nothing,
     )?;
     let made = Made {
         queue,
         pass: lanes.pass,
     };
-    Ok(leaves(alloc, made, calls_of(row), left))
+    let calls = (row.before.len() + row.beside.len() + 1) as u32 + u32::from(row.waits.is_some());
+    Ok(leaves(alloc, made, calls, left))
 }
 
 #[test]
@@ -199,10 +229,7 @@ fn an_insert_waits_for_a_hole_on_its_way(rt: HostRuntime) {
     ];
     for held in [got(1, 8), got_below(2, 1, 8)] {
         let late = LateHold::new(Point::HeapSift, TURNS);
-        let row = HeldCall {
-            waits: Some(insert(0, 9)),
-            ..row(&before, held, &[])
-        };
+        let row = waiting_row(&before, held, insert(0, 9));
         assert_eq!(rt; run(&rt, rt.alloc(), &late, &row, &left), Ok(Ok(())));
     }
 }
@@ -235,7 +262,7 @@ fn a_call_that_is_held_on_its_way_leaves_a_legal_history(rt: HostRuntime) {
         most: 8,
         ..row(&before, held, &beside)
     };
-    let checked = beside_a_held_call::<HostRuntime, HuntHeap<&LateHold>, Nothing>(
+    let checked = run_held::<HostRuntime, HuntHeap<&LateHold>, Nothing>(
         &rt,
         rt.alloc(),
         &late,
@@ -246,7 +273,7 @@ fn a_call_that_is_held_on_its_way_leaves_a_legal_history(rt: HostRuntime) {
     let Ok((queue, lanes)) = checked else {
         panic!(rt; "a call is held")
     };
-    let Ok(history) = audited(rt.alloc(), queue, 16, lanes) else {
+    let Ok(history) = audited(rt.alloc(), queue, row.capacity, lanes) else {
         panic!(rt; "the history is legal")
     };
     assert_eq!(rt; history.marks.len(), 11);
@@ -263,21 +290,22 @@ impl<Q: SharedQueue> Aside<Q> for Finds {
     }
 }
 
+// What is amiss where a look beside a held removal is to find so many calls.
+fn amiss_beside<R: Threads + Wait + Sync>(rt: &R, alloc: Global, calls: u32) -> Option<HeldFault> {
+    let before = [insert(1, 0), insert(2, 1), insert(3, 2)];
+    let late = LateHold::new(Point::HeapSift, TURNS);
+    let row = row(&before, got(1, 3), &[]);
+    let aside = Finds(calls);
+    match run_held::<R, HuntHeap<&LateHold>, Finds>(rt, alloc, &late, &late, &row, &aside) {
+        Ok(_) => None,
+        Err(fault) => Some(fault),
+    }
+}
+
 #[test]
 fn what_is_done_besides_is_done_while_a_call_is_held(rt: HostRuntime) {
-    let before = [insert(1, 0), insert(2, 1), insert(3, 2)];
     for (calls, wanted) in [(4, None), (3, Some(HeldFault::Aside))] {
-        let late = LateHold::new(Point::HeapSift, TURNS);
-        let row = row(&before, got(1, 3), &[]);
-        let checked = beside_a_held_call::<HostRuntime, HuntHeap<&LateHold>, Finds>(
-            &rt,
-            rt.alloc(),
-            &late,
-            &late,
-            &row,
-            &Finds(calls),
-        );
-        assert_eq!(rt; checked.err(), wanted);
+        assert_eq!(rt; amiss_beside(&rt, rt.alloc(), calls), wanted);
     }
 }
 
@@ -319,10 +347,7 @@ fn the_check_finds_what_is_amiss(rt: HostRuntime) {
         (busy, Point::HeapBusy, Ok(Err(CheckFault::Left))),
         // a call that has to wait for nothing
         (
-            HeldCall {
-                waits: Some(above(2, 4)),
-                ..sift
-            },
+            waiting_row(&before, got(1, 3), above(2, 4)),
             Point::HeapSift,
             Err(HeldFault::Early),
         ),
